@@ -1,0 +1,5 @@
+use Prim.Native.Nat.{_-_}
+use Rattle.item_tree.proofs.lower.visibility.private_field.Given as given
+
+abbrev pub μ-loop-child : given.MeasureT-loop-child
+μ-loop-child g l = l .strukt .node .end - l .at

@@ -1,0 +1,206 @@
+// Visibilities of items, and of a struct's constructor.
+ghost use mathlib.Core.Path.{_≡_};
+ghost use Rattle.item_tree.specs.Contents.{markedOf};
+use crate::lower::Ctx;
+use items::ids::RawVisibilityId;
+use items::records::StructValueNsCtor;
+use items::records::VisibilityIds;
+use items::visibility::RawVisibility;
+use items::visibility::VisibilityExplicitness;
+use items::visibility::WrittenVisibility;
+use paths::mod_path::ModPath;
+use paths::mod_path::PathKind;
+use syntax::kind::SyntaxKind;
+use syntax::refusal::Refusal;
+use syntax::source::SyntaxSource;
+use syntax::walk::NodeRef;
+use syntax::walk::child_of_kind;
+use syntax::walk::sibling_at;
+
+fn private_vis() -> WrittenVisibility {
+    WrittenVisibility::PubSelf(VisibilityExplicitness::Implicit)
+}
+
+// The visibility that is written on a node.
+pub(crate) fn visibility_from_ast<S: SyntaxSource>(source: &S, node: NodeRef) -> WrittenVisibility {
+    let Some(vis) = child_of_kind(source, node, SyntaxKind::Vis) else {
+        return private_vis();
+    };
+    match vis.node.mark {
+        0 => WrittenVisibility::Public,
+        1 => WrittenVisibility::PubCrate,
+        2 => WrittenVisibility::Module(ModPath::from_kind(PathKind::Super(1))),
+        3 => WrittenVisibility::PubSelf(VisibilityExplicitness::Explicit),
+        _ => visibility_in(source, vis),
+    }
+}
+
+// `pub(in path)`, which is private where the path is unreadable.
+fn visibility_in<S: SyntaxSource>(source: &S, vis: NodeRef) -> WrittenVisibility {
+    let Some(path) = child_of_kind(source, vis, SyntaxKind::Path) else {
+        return private_vis();
+    };
+    let Some(path) = ModPath::from_src(source, path) else {
+        return private_vis();
+    };
+    WrittenVisibility::Module(path)
+}
+
+// The visibility of the first private field.
+fn private_field<S: SyntaxSource>(source: &S, strukt: NodeRef) -> Option<VisibilityExplicitness> {
+    let mut at = strukt.first_child();
+    while let Some(child) = sibling_at(source, at, strukt.node.end) {
+        if child.node.kind == SyntaxKind::Field.number() {
+            if let WrittenVisibility::PubSelf(explicitness) = visibility_from_ast(source, child) {
+                return Some(explicitness);
+            }
+        }
+        at = child.node.end;
+    }
+    None
+}
+
+// The least visibility so far, of a struct and its fields none of which is private.
+#[derive(Clone, Copy)]
+enum Least {
+    Public,
+    PubCrate,
+    Module(RawVisibilityId),
+    // more than one module's, from that entry of the constructors' table on
+    Modules(usize),
+}
+
+impl Ctx {
+    pub(crate) fn lower_visibility<S: SyntaxSource>(&mut self, source: &S, item: NodeRef) -> Result<RawVisibilityId, Refusal>
+        ensures { λ _. ⌜ markedOf (now (self .exit)) ≡ markedOf (now (self .entry)) ⌝ }
+    {
+        let visibility = visibility_from_ast(source, item);
+        self.alloc_visibility(&visibility)
+    }
+
+    pub(crate) fn alloc_visibility(&mut self, visibility: &WrittenVisibility) -> Result<RawVisibilityId, Refusal>
+        ensures { λ _. ⌜ markedOf (now (self .exit)) ≡ markedOf (now (self .entry)) ⌝ }
+    {
+        match visibility {
+            WrittenVisibility::Public => Ok(RawVisibilityId::PUB),
+            WrittenVisibility::PubSelf(explicitness) => Ok(private_id(*explicitness)),
+            WrittenVisibility::PubCrate => Ok(RawVisibilityId::PUB_CRATE),
+            WrittenVisibility::Module(path) => self.alloc_module_visibility(path),
+        }
+    }
+
+    fn alloc_module_visibility(&mut self, path: &ModPath) -> Result<RawVisibilityId, Refusal>
+        ensures { λ _. ⌜ markedOf (now (self .exit)) ≡ markedOf (now (self .entry)) ⌝ }
+    {
+        let path = self.paths.intern(path)?;
+        self.visibilities
+            .record(RawVisibility::Module(path, VisibilityExplicitness::Explicit))
+    }
+
+    // The constructor of a tuple struct.
+    pub(crate) fn tuple_struct_ctor_vis<S: SyntaxSource>(&mut self, source: &S, strukt: NodeRef) -> Result<StructValueNsCtor, Refusal>
+        ensures { λ _. ⌜ markedOf (now (self .exit)) ≡ markedOf (now (self .entry)) ⌝ }
+    {
+        let own = visibility_from_ast(source, strukt);
+        // `pub(self)` <= anything.
+        if let WrittenVisibility::PubSelf(explicitness) = own {
+            return Ok(StructValueNsCtor::ValueNsCtorWithVis(private_id(explicitness)));
+        }
+        // If there is a field private, the minimal visibility is private.
+        if let Some(explicitness) = private_field(source, strukt) {
+            return Ok(StructValueNsCtor::ValueNsCtorWithVis(private_id(explicitness)));
+        }
+        let least = self.narrowed(Least::Public, &own)?;
+        let least = self.narrowed_by_fields(source, strukt, least)?;
+        Ok(self.ctor_of(least))
+    }
+
+    fn narrowed_by_fields<S: SyntaxSource>(&mut self, source: &S, strukt: NodeRef, own: Least) -> Result<Least, Refusal>
+        ensures { λ _. ⌜ markedOf (now (self .exit)) ≡ markedOf (now (self .entry)) ⌝ }
+    {
+        let mut least = own;
+        let mut at = strukt.first_child();
+        while let Some(child) = sibling_at(source, at, strukt.node.end) {
+            if child.node.kind == SyntaxKind::Field.number() {
+                let field = visibility_from_ast(source, child);
+                least = self.narrowed(least, &field)?;
+            }
+            at = child.node.end;
+        }
+        Ok(least)
+    }
+
+    // The least visibility with one more.
+    fn narrowed(&mut self, least: Least, visibility: &WrittenVisibility) -> Result<Least, Refusal>
+        ensures { λ _. ⌜ markedOf (now (self .exit)) ≡ markedOf (now (self .entry)) ⌝ }
+    {
+        match visibility {
+            WrittenVisibility::Module(path) => {
+                let id = self.alloc_module_visibility(path)?;
+                self.narrowed_to_module(least, id)
+            }
+            // `pub(in module) | pub(crate)` <= `pub(crate) | pub`.
+            WrittenVisibility::PubCrate => match least {
+                Least::Public => Ok(Least::PubCrate),
+                other => Ok(other),
+            },
+            WrittenVisibility::Public | WrittenVisibility::PubSelf(_) => Ok(least),
+        }
+    }
+
+    fn narrowed_to_module(&mut self, least: Least, id: RawVisibilityId) -> Result<Least, Refusal>
+        ensures { λ _. ⌜ markedOf (now (self .exit)) ≡ markedOf (now (self .entry)) ⌝ }
+    {
+        match least {
+            Least::Public | Least::PubCrate => Ok(Least::Module(id)),
+            Least::Module(other) => {
+                if other.number == id.number {
+                    return Ok(least);
+                }
+                let first = self.ctors.len();
+                let _ = self.ctors.push(other)?;
+                let _ = self.ctors.push(id)?;
+                Ok(Least::Modules(first))
+            }
+            Least::Modules(first) => {
+                if !self.is_listed(first, id) {
+                    let _ = self.ctors.push(id)?;
+                }
+                Ok(least)
+            }
+        }
+    }
+
+    // Whether the list that begins at `first` and is the last one has this visibility.
+    fn is_listed(&self, first: usize, id: RawVisibilityId) -> bool {
+        for index in first..self.ctors.len() {
+            if let Some(other) = self.ctors.get(index) {
+                if other.number == id.number {
+                    return true;
+                }
+            }
+        }
+        false
+    }
+
+    fn ctor_of(&self, least: Least) -> StructValueNsCtor {
+        match least {
+            Least::Public => StructValueNsCtor::ValueNsCtorWithVis(RawVisibilityId::PUB),
+            Least::PubCrate => StructValueNsCtor::ValueNsCtorWithVis(RawVisibilityId::PUB_CRATE),
+            Least::Module(id) => StructValueNsCtor::ValueNsCtorWithVis(id),
+            Least::Modules(first) => {
+                let len = self.ctors.len();
+                let first = first.min(len);
+                StructValueNsCtor::ValueNsCtorWithMinVis(VisibilityIds {
+                    first: first as u32,
+                    count: (len - first) as u32,
+                })
+            }
+        }
+    }
+}
+
+// The number of a private visibility.
+fn private_id(explicitness: VisibilityExplicitness) -> RawVisibilityId {
+    if explicitness.is_explicit() { RawVisibilityId::PRIV_EXPLICIT } else { RawVisibilityId::PRIV_IMPLICIT }
+}
