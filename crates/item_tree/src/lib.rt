@@ -1,4 +1,3 @@
-// The item tree: lowering a source into tables, and reading them once that is done.
-pub mod attrs;
+// The item tree: it takes items until it is finalized, and is read only afterwards.
 pub mod lower;
 pub mod tree;

@@ -64,3 +64,10 @@ pub struct BigRow {
     // none where the list is enabled and empty
     pub attrs: Option<AttrsOrCfg>,
 }
+
+// What an id answers: the record and its node.
+#[derive(Clone, Copy)]
+pub struct IndexedItem {
+    pub id: FileAstId,
+    pub item: ModItem,
+}

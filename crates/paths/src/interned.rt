@@ -11,6 +11,11 @@ pub struct PathId {
     number: u32,
 }
 
+impl PathId {
+    // The path that was recorded first.
+    pub const FIRST: PathId = PathId { number: 0 };
+}
+
 // A path of the table: its names are a part of the table of segments.
 #[derive(Clone, Copy)]
 pub struct InternedPath {

@@ -1,59 +1,61 @@
 // The lowering calls.
+ghost use mathlib.Core.Bool.{false, true};
 ghost use mathlib.Core.Path.{_≡_};
+ghost use lib.ListN.{length};
 ghost use Rattle.std.specs.Results.{Cases};
-ghost use Rattle.item_tree.specs.Contents.{heldOf, markedOf};
+ghost use Rattle.syntax.specs.declared.refusal.Refusal.the-variants.{NotFirst as TooLate};
+ghost use Rattle.lower.specs.Contents.{empty, heldOf, markedOf};
 use crate::lower::Ctx;
-use items::attrs::Attr;
+use crate::lower::walk::lower_items;
 use items::attrs::AttrsOrCfg;
-use items::ids::FileAstId;
-use items::ids::ModItemId;
-use items::ids::RawVisibilityId;
-use items::records::Impl;
-use items::rows::BigModItem;
-use items::rows::BigRow;
-use items::rows::SmallModItem;
-use items::rows::SmallRow;
-use items::use_tree::UseTree;
-use items::use_tree::UseTreeKind;
-use items::visibility::Visibilities;
-use paths::interned::Paths;
+use lower::tree_tables::TreeTables;
 use syntax::refusal::Refusal;
 use syntax::source::SyntaxSource;
 use syntax::walk::NodeRef;
-use tables::table::Table;
 
 impl Ctx {
+    // A new tree, which holds nothing.
+    pub fn new() -> Ctx
+        ensures { λ r. ⌜ (heldOf (r .tree) ≡ empty) × (r .begun ≡ false) ⌝ }
+    {
+        Ctx {
+            tree: TreeTables::new(),
+            begun: false,
+        }
+    }
+
     // Root lowering: the attributes of the file, then all its items. Answers how many stand at the top level.
     pub fn lower_module_items<S: SyntaxSource>(&mut self, source: &S) -> Result<u32, Refusal>
-        ensures { λ r. ⌜ Cases r (λ _. Unit {0}) (λ _. heldOf (now (self .exit)) ≡ heldOf (now (self .entry))) ⌝ }
+        ensures answers { λ r. ⌜ Cases r (λ count. (now (self .entry) .begun ≡ false) × (now (self .exit) .begun ≡ true) × (count ≡ length (heldOf (now (self .exit) .tree) .ids))) (λ _. (heldOf (now (self .exit) .tree) ≡ heldOf (now (self .entry) .tree)) × (now (self .exit) .begun ≡ now (self .entry) .begun)) ⌝ }
+        ensures late { λ r. ⌜ (now (self .entry) .begun ≡ true → Cases r (λ _. ⊥) (λ e. e ≡ TooLate)) ⌝ }
     {
         if self.begun {
             return Err(Refusal::NotFirst);
         }
-        self.set_mark();
-        match self.lower_file(source) {
+        self.tree.set_mark();
+        match lower_file(&mut self.tree, source) {
             Ok(top) => {
-                self.top = top;
+                self.tree.set_top(top);
                 self.begun = true;
-                Ok(self.ids.len() as u32)
+                Ok(self.tree.next_id_place() as u32)
             }
             Err(refusal) => {
-                self.go_back();
+                self.tree.go_back();
                 Err(refusal)
             }
         }
     }
+}
 
-    // All that a file holds; answers its own attributes.
-    fn lower_file<S: SyntaxSource>(&mut self, source: &S) -> Result<Option<AttrsOrCfg>, Refusal>
-        ensures { λ _. ⌜ markedOf (now (self .exit)) ≡ markedOf (now (self .entry)) ⌝ }
-    {
-        let Some(node) = source.node(0) else {
-            return Ok(None);
-        };
-        let file = NodeRef { number: 0, node };
-        let top = self.lower_attrs(source, file)?;
-        self.lower_items(source, file.first_child(), node.end)?;
-        Ok(top)
-    }
+// All that a file holds; answers its own attributes.
+fn lower_file<S: SyntaxSource>(tree: &mut TreeTables, source: &S) -> Result<Option<AttrsOrCfg>, Refusal>
+    ensures { λ _. ⌜ markedOf (now (tree .exit)) ≡ markedOf (now (tree .entry)) ⌝ }
+{
+    let Some(node) = source.node(0) else {
+        return Ok(None);
+    };
+    let file = NodeRef { number: 0, node };
+    let top = tree.lower_attrs(source, file)?;
+    lower_items(tree, source, file.first_child(), node.end)?;
+    Ok(top)
 }

@@ -29,6 +29,15 @@ impl<T: Copy, const N: usize> Table<T, N> {
         self.len
     }
 
+    // What the table holds.
+    pub fn as_slice(&self) -> &[T]
+        ensures { λ r. ⌜ now r ≡ held (now (self .entry)) ⌝ }
+    {
+        let len = self.len;
+        let rows = &self.inner.rows[..];
+        &rows[0..len]
+    }
+
     // The row at an index, where there is one.
     pub fn get(&self, index: usize) -> Option<T>
         ensures { λ r. ⌜ r ≡ at (held (now (self .entry))) index ⌝ }

@@ -1,6 +1,7 @@
 -- What the tables of a tree hold, and would hold after going back.
-use mathlib.Core.List.{List}
+use mathlib.Core.List.{List, []}
 use Rattle.std.specs.declared.option.Option.{Option}
+use Rattle.std.specs.declared.option.Option.the-variants.{None}
 use Rattle.tables.specs.Held.{held, marked}
 use Rattle.paths.specs.Kept.{heldPaths, markedPaths}
 use Rattle.paths.specs.declared.interned.InternedPath.{InternedPath}
@@ -13,7 +14,7 @@ use Rattle.items.specs.declared.rows.BigRow.{BigRow}
 use Rattle.items.specs.declared.rows.SmallRow.{SmallRow}
 use Rattle.items.specs.declared.use_tree.UseTree.{UseTree}
 use Rattle.items.specs.declared.visibility.RawVisibility.{RawVisibility}
-use Rattle.item_tree.specs.declared.lower.Ctx.{Ctx}
+use Rattle.lower.specs.declared.tree_tables.TreeTables.{TreeTables}
 
 pub record Contents : Type 0 where
   pub small : List SmallRow
@@ -27,7 +28,21 @@ pub record Contents : Type 0 where
   pub uses : List UseTree
   pub paths : List InternedPath × List Name
 
-abbrev pub heldOf : Ctx → Contents
+abbrev pub empty : Contents
+empty = record {
+  small = [];
+  big = [];
+  ids = [];
+  children = [];
+  attrs = [];
+  top = None;
+  visibilities = [];
+  ctors = [];
+  uses = [];
+  paths = ([], []);
+}
+
+abbrev pub heldOf : TreeTables → Contents
 heldOf c = record {
   small = held (c .small);
   big = held (c .big);
@@ -41,7 +56,7 @@ heldOf c = record {
   paths = heldPaths (c .paths);
 }
 
-abbrev pub markedOf : Ctx → Contents
+abbrev pub markedOf : TreeTables → Contents
 markedOf c = record {
   small = marked (c .small);
   big = marked (c .big);

@@ -1,7 +1,7 @@
 // Visibilities of items, and of a struct's constructor.
 ghost use mathlib.Core.Path.{_≡_};
-ghost use Rattle.item_tree.specs.Contents.{markedOf};
-use crate::lower::Ctx;
+ghost use Rattle.lower.specs.Contents.{markedOf};
+use crate::tree_tables::TreeTables;
 use items::ids::RawVisibilityId;
 use items::records::StructValueNsCtor;
 use items::records::VisibilityIds;
@@ -22,7 +22,7 @@ fn private_vis() -> WrittenVisibility {
 }
 
 // The visibility that is written on a node.
-pub(crate) fn visibility_from_ast<S: SyntaxSource>(source: &S, node: NodeRef) -> WrittenVisibility {
+pub fn visibility_from_ast<S: SyntaxSource>(source: &S, node: NodeRef) -> WrittenVisibility {
     let Some(vis) = child_of_kind(source, node, SyntaxKind::Vis) else {
         return private_vis();
     };
@@ -70,15 +70,15 @@ enum Least {
     Modules(usize),
 }
 
-impl Ctx {
-    pub(crate) fn lower_visibility<S: SyntaxSource>(&mut self, source: &S, item: NodeRef) -> Result<RawVisibilityId, Refusal>
+impl TreeTables {
+    pub fn lower_visibility<S: SyntaxSource>(&mut self, source: &S, item: NodeRef) -> Result<RawVisibilityId, Refusal>
         ensures { λ _. ⌜ markedOf (now (self .exit)) ≡ markedOf (now (self .entry)) ⌝ }
     {
         let visibility = visibility_from_ast(source, item);
         self.alloc_visibility(&visibility)
     }
 
-    pub(crate) fn alloc_visibility(&mut self, visibility: &WrittenVisibility) -> Result<RawVisibilityId, Refusal>
+    pub fn alloc_visibility(&mut self, visibility: &WrittenVisibility) -> Result<RawVisibilityId, Refusal>
         ensures { λ _. ⌜ markedOf (now (self .exit)) ≡ markedOf (now (self .entry)) ⌝ }
     {
         match visibility {
@@ -98,7 +98,7 @@ impl Ctx {
     }
 
     // The constructor of a tuple struct.
-    pub(crate) fn tuple_struct_ctor_vis<S: SyntaxSource>(&mut self, source: &S, strukt: NodeRef) -> Result<StructValueNsCtor, Refusal>
+    pub fn tuple_struct_ctor_vis<S: SyntaxSource>(&mut self, source: &S, strukt: NodeRef) -> Result<StructValueNsCtor, Refusal>
         ensures { λ _. ⌜ markedOf (now (self .exit)) ≡ markedOf (now (self .entry)) ⌝ }
     {
         let own = visibility_from_ast(source, strukt);

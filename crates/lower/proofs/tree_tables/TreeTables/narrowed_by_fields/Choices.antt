@@ -1,10 +1,10 @@
 use mathlib.Core.Path.{_≡_}
 use Prim.Native.Nat.{_-_}
-use Rattle.item_tree.specs.Contents.{markedOf}
-use Rattle.item_tree.proofs.lower.Ctx.lower_attrs.Given as given
+use Rattle.lower.specs.Contents.{markedOf}
+use Rattle.lower.proofs.tree_tables.TreeTables.narrowed_by_fields.Given as given
 
 abbrev pub Inv-loop-child : given.InvT-loop-child
 Inv-loop-child g l = markedOf (l .self) ≡ markedOf (l .entry .self)
 
 abbrev pub μ-loop-child : given.MeasureT-loop-child
-μ-loop-child g l = l .owner .node .end - l .at
+μ-loop-child g l = l .strukt .node .end - l .at

@@ -1,7 +1,7 @@
 use mathlib.Core.Path.{_≡_}
 use Prim.Native.Nat.{_-_}
-use Rattle.item_tree.specs.Contents.{markedOf}
-use Rattle.item_tree.proofs.lower.Ctx.+lower_use_tree.Given as given
+use Rattle.lower.specs.Contents.{markedOf}
+use Rattle.lower.proofs.tree_tables.TreeTables.+lower_use_tree.Given as given
 
 abbrev pub μ-lower-use-tree : given.MeasureT-lower-use-tree
 μ-lower-use-tree g l = l .depth

@@ -1,7 +1,7 @@
 // Collecting the attributes of a node.
 ghost use mathlib.Core.Path.{_≡_};
-ghost use Rattle.item_tree.specs.Contents.{markedOf};
-use crate::lower::Ctx;
+ghost use Rattle.lower.specs.Contents.{markedOf};
+use crate::tree_tables::TreeTables;
 use items::attrs::Attr;
 use items::attrs::AttrInput;
 use items::attrs::AttrsOrCfg;
@@ -53,9 +53,9 @@ enum Collected {
     Disabled(CfgExpr),
 }
 
-impl Ctx {
+impl TreeTables {
     // The attributes of a node; none where the list is enabled and empty.
-    pub(crate) fn lower_attrs<S: SyntaxSource>(&mut self, source: &S, owner: NodeRef) -> Result<Option<AttrsOrCfg>, Refusal>
+    pub fn lower_attrs<S: SyntaxSource>(&mut self, source: &S, owner: NodeRef) -> Result<Option<AttrsOrCfg>, Refusal>
         ensures { λ _. ⌜ markedOf (now (self .exit)) ≡ markedOf (now (self .entry)) ⌝ }
     {
         let first = self.attrs.len();

@@ -1,7 +1,7 @@
 // The small items without children, each lowered to its record or passed over.
 ghost use mathlib.Core.Path.{_≡_};
-ghost use Rattle.item_tree.specs.Contents.{markedOf};
-use crate::lower::Ctx;
+ghost use Rattle.lower.specs.Contents.{markedOf};
+use crate::tree_tables::TreeTables;
 use items::ids::SyntaxContext;
 use items::records::Const;
 use items::records::Enum;
@@ -24,8 +24,8 @@ use syntax::source::SyntaxSource;
 use syntax::walk::NodeRef;
 use syntax::walk::child_of_kind;
 
-impl Ctx {
-    pub(crate) fn lower_union<S: SyntaxSource>(&mut self, source: &S, union: NodeRef) -> Result<Option<SmallModItem>, Refusal>
+impl TreeTables {
+    pub fn lower_union<S: SyntaxSource>(&mut self, source: &S, union: NodeRef) -> Result<Option<SmallModItem>, Refusal>
         ensures { λ _. ⌜ markedOf (now (self .exit)) ≡ markedOf (now (self .entry)) ⌝ }
     {
         let visibility = self.lower_visibility(source, union)?;
@@ -35,7 +35,7 @@ impl Ctx {
         Ok(Some(SmallModItem::Union(Union { name, visibility })))
     }
 
-    pub(crate) fn lower_enum<S: SyntaxSource>(&mut self, source: &S, enum_: NodeRef) -> Result<Option<SmallModItem>, Refusal>
+    pub fn lower_enum<S: SyntaxSource>(&mut self, source: &S, enum_: NodeRef) -> Result<Option<SmallModItem>, Refusal>
         ensures { λ _. ⌜ markedOf (now (self .exit)) ≡ markedOf (now (self .entry)) ⌝ }
     {
         let visibility = self.lower_visibility(source, enum_)?;
@@ -45,7 +45,7 @@ impl Ctx {
         Ok(Some(SmallModItem::Enum(Enum { name, visibility })))
     }
 
-    pub(crate) fn lower_function<S: SyntaxSource>(&mut self, source: &S, func: NodeRef) -> Result<Option<SmallModItem>, Refusal>
+    pub fn lower_function<S: SyntaxSource>(&mut self, source: &S, func: NodeRef) -> Result<Option<SmallModItem>, Refusal>
         ensures { λ _. ⌜ markedOf (now (self .exit)) ≡ markedOf (now (self .entry)) ⌝ }
     {
         let visibility = self.lower_visibility(source, func)?;
@@ -55,7 +55,7 @@ impl Ctx {
         Ok(Some(SmallModItem::Function(Function { name, visibility })))
     }
 
-    pub(crate) fn lower_type_alias<S: SyntaxSource>(&mut self, source: &S, alias: NodeRef) -> Result<Option<SmallModItem>, Refusal>
+    pub fn lower_type_alias<S: SyntaxSource>(&mut self, source: &S, alias: NodeRef) -> Result<Option<SmallModItem>, Refusal>
         ensures { λ _. ⌜ markedOf (now (self .exit)) ≡ markedOf (now (self .entry)) ⌝ }
     {
         let Some(name) = Name::of_text(alias.node.text) else {
@@ -65,7 +65,7 @@ impl Ctx {
         Ok(Some(SmallModItem::TypeAlias(TypeAlias { name, visibility })))
     }
 
-    pub(crate) fn lower_static<S: SyntaxSource>(&mut self, source: &S, static_: NodeRef) -> Result<Option<SmallModItem>, Refusal>
+    pub fn lower_static<S: SyntaxSource>(&mut self, source: &S, static_: NodeRef) -> Result<Option<SmallModItem>, Refusal>
         ensures { λ _. ⌜ markedOf (now (self .exit)) ≡ markedOf (now (self .entry)) ⌝ }
     {
         let Some(name) = Name::of_text(static_.node.text) else {
@@ -75,7 +75,7 @@ impl Ctx {
         Ok(Some(SmallModItem::Static(Static { name, visibility })))
     }
 
-    pub(crate) fn lower_const<S: SyntaxSource>(&mut self, source: &S, konst: NodeRef) -> Result<Option<SmallModItem>, Refusal>
+    pub fn lower_const<S: SyntaxSource>(&mut self, source: &S, konst: NodeRef) -> Result<Option<SmallModItem>, Refusal>
         ensures { λ _. ⌜ markedOf (now (self .exit)) ≡ markedOf (now (self .entry)) ⌝ }
     {
         let name = Name::of_text(konst.node.text);
@@ -83,7 +83,7 @@ impl Ctx {
         Ok(Some(SmallModItem::Const(Const { name, visibility })))
     }
 
-    pub(crate) fn lower_trait<S: SyntaxSource>(&mut self, source: &S, trait_def: NodeRef) -> Result<Option<SmallModItem>, Refusal>
+    pub fn lower_trait<S: SyntaxSource>(&mut self, source: &S, trait_def: NodeRef) -> Result<Option<SmallModItem>, Refusal>
         ensures { λ _. ⌜ markedOf (now (self .exit)) ≡ markedOf (now (self .entry)) ⌝ }
     {
         let Some(name) = Name::of_text(trait_def.node.text) else {
@@ -93,7 +93,7 @@ impl Ctx {
         Ok(Some(SmallModItem::Trait(Trait { name, visibility })))
     }
 
-    pub(crate) fn lower_macro_call<S: SyntaxSource>(&mut self, source: &S, call: NodeRef) -> Result<Option<SmallModItem>, Refusal>
+    pub fn lower_macro_call<S: SyntaxSource>(&mut self, source: &S, call: NodeRef) -> Result<Option<SmallModItem>, Refusal>
         ensures { λ _. ⌜ markedOf (now (self .exit)) ≡ markedOf (now (self .entry)) ⌝ }
     {
         let Some(path) = child_of_kind(source, call, SyntaxKind::Path) else {
@@ -113,7 +113,7 @@ impl Ctx {
         })))
     }
 
-    pub(crate) fn lower_macro_def<S: SyntaxSource>(&mut self, source: &S, def: NodeRef) -> Result<Option<SmallModItem>, Refusal>
+    pub fn lower_macro_def<S: SyntaxSource>(&mut self, source: &S, def: NodeRef) -> Result<Option<SmallModItem>, Refusal>
         ensures { λ _. ⌜ markedOf (now (self .exit)) ≡ markedOf (now (self .entry)) ⌝ }
     {
         let Some(name) = Name::of_text(def.node.text) else {
@@ -124,11 +124,11 @@ impl Ctx {
     }
 }
 
-pub(crate) fn lower_impl(impl_def: NodeRef) -> SmallModItem {
+pub fn lower_impl(impl_def: NodeRef) -> SmallModItem {
     SmallModItem::Impl(Impl { of_trait: impl_def.node.mark == 1 })
 }
 
-pub(crate) fn lower_macro_rules(rules: NodeRef) -> Option<SmallModItem> {
+pub fn lower_macro_rules(rules: NodeRef) -> Option<SmallModItem> {
     let Some(name) = Name::of_text(rules.node.text) else {
         return None;
     };

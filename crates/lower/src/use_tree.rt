@@ -1,7 +1,7 @@
 // Lowering a use tree: its lowered nodes go to the table one after another, a group before its members.
 ghost use mathlib.Core.Path.{_≡_};
-ghost use Rattle.item_tree.specs.Contents.{markedOf};
-use crate::lower::Ctx;
+ghost use Rattle.lower.specs.Contents.{markedOf};
+use crate::tree_tables::TreeTables;
 use items::use_tree::ImportAlias;
 use items::use_tree::UseTree;
 use items::use_tree::UseTreeKind;
@@ -16,7 +16,7 @@ use syntax::walk::child_of_kind;
 use syntax::walk::sibling_at;
 
 // The alias that a Rename child gives; without a text it is `_`.
-pub(crate) fn alias_of<S: SyntaxSource>(source: &S, node: NodeRef) -> Option<ImportAlias> {
+pub fn alias_of<S: SyntaxSource>(source: &S, node: NodeRef) -> Option<ImportAlias> {
     let Some(rename) = child_of_kind(source, node, SyntaxKind::Rename) else {
         return None;
     };
@@ -67,7 +67,7 @@ fn path_of<S: SyntaxSource>(source: &S, tree: NodeRef) -> UsePath {
     }
 }
 
-impl Ctx {
+impl TreeTables {
     // The record of a use node, with no members yet, unless the node is passed over.
     fn lower_use_kind<S: SyntaxSource>(&mut self, source: &S, tree: NodeRef) -> Result<Option<UseTreeKind>, Refusal>
         ensures { λ _. ⌜ markedOf (now (self .exit)) ≡ markedOf (now (self .entry)) ⌝ }
@@ -123,7 +123,7 @@ impl Ctx {
     }
 
     // Lowers a use node and then its members, unless it is passed over; `depth` levels may follow.
-    pub(crate) fn lower_use_tree<S: SyntaxSource>(&mut self, source: &S, tree: NodeRef, depth: u32) -> Result<(), Refusal>
+    pub fn lower_use_tree<S: SyntaxSource>(&mut self, source: &S, tree: NodeRef, depth: u32) -> Result<(), Refusal>
         ensures { λ _. ⌜ markedOf (now (self .exit)) ≡ markedOf (now (self .entry)) ⌝ }
     {
         let Some(kind) = self.lower_use_kind(source, tree)? else {

@@ -1,8 +1,8 @@
 // The big items without children, each lowered to its record or passed over.
 ghost use mathlib.Core.Path.{_≡_};
-ghost use Rattle.item_tree.specs.Contents.{markedOf};
-use crate::lower::Ctx;
-use crate::lower::use_tree::alias_of;
+ghost use Rattle.lower.specs.Contents.{markedOf};
+use crate::tree_tables::TreeTables;
+use crate::use_tree::alias_of;
 use items::ids::RawVisibilityId;
 use items::records::ExternCrate;
 use items::records::FieldsShape;
@@ -20,8 +20,8 @@ use syntax::source::SyntaxSource;
 use syntax::walk::NodeRef;
 use syntax::walk::child_of_kind;
 
-impl Ctx {
-    pub(crate) fn lower_struct<S: SyntaxSource>(&mut self, source: &S, strukt: NodeRef) -> Result<Option<BigModItem>, Refusal>
+impl TreeTables {
+    pub fn lower_struct<S: SyntaxSource>(&mut self, source: &S, strukt: NodeRef) -> Result<Option<BigModItem>, Refusal>
         ensures { λ _. ⌜ markedOf (now (self .exit)) ≡ markedOf (now (self .entry)) ⌝ }
     {
         let visibility = self.lower_visibility(source, strukt)?;
@@ -45,7 +45,7 @@ impl Ctx {
         }
     }
 
-    pub(crate) fn lower_use<S: SyntaxSource>(&mut self, source: &S, use_item: NodeRef) -> Result<Option<BigModItem>, Refusal>
+    pub fn lower_use<S: SyntaxSource>(&mut self, source: &S, use_item: NodeRef) -> Result<Option<BigModItem>, Refusal>
         ensures { λ _. ⌜ markedOf (now (self .exit)) ≡ markedOf (now (self .entry)) ⌝ }
     {
         let visibility = self.lower_visibility(source, use_item)?;
@@ -65,7 +65,7 @@ impl Ctx {
         Ok(Some(BigModItem::Use(Use { visibility, use_tree })))
     }
 
-    pub(crate) fn lower_extern_crate<S: SyntaxSource>(&mut self, source: &S, extern_crate: NodeRef) -> Result<Option<BigModItem>, Refusal>
+    pub fn lower_extern_crate<S: SyntaxSource>(&mut self, source: &S, extern_crate: NodeRef) -> Result<Option<BigModItem>, Refusal>
         ensures { λ _. ⌜ markedOf (now (self .exit)) ≡ markedOf (now (self .entry)) ⌝ }
     {
         let Some(name) = Name::of_text(extern_crate.node.text) else {
@@ -77,7 +77,7 @@ impl Ctx {
     }
 
     // `mod m;`
-    pub(crate) fn lower_outline_module<S: SyntaxSource>(&mut self, source: &S, module: NodeRef) -> Result<Option<BigModItem>, Refusal>
+    pub fn lower_outline_module<S: SyntaxSource>(&mut self, source: &S, module: NodeRef) -> Result<Option<BigModItem>, Refusal>
         ensures { λ _. ⌜ markedOf (now (self .exit)) ≡ markedOf (now (self .entry)) ⌝ }
     {
         let Some(name) = Name::of_text(module.node.text) else {

@@ -1,10 +1,10 @@
 // Marking what is there, and going back to it.
 ghost use mathlib.Core.Path.{_≡_};
-ghost use Rattle.item_tree.specs.Contents.{heldOf, markedOf};
-use crate::lower::Ctx;
+ghost use Rattle.lower.specs.Contents.{heldOf, markedOf};
+use crate::tree_tables::TreeTables;
 
-impl Ctx {
-    pub(crate) fn set_mark(&mut self)
+impl TreeTables {
+    pub fn set_mark(&mut self)
         ensures held { λ _. ⌜ heldOf (now (self .exit)) ≡ heldOf (now (self .entry)) ⌝ }
         ensures marked { λ _. ⌜ markedOf (now (self .exit)) ≡ heldOf (now (self .entry)) ⌝ }
     {
@@ -19,7 +19,7 @@ impl Ctx {
         self.paths.set_mark();
     }
 
-    pub(crate) fn go_back(&mut self)
+    pub fn go_back(&mut self)
         ensures { λ _. ⌜ heldOf (now (self .exit)) ≡ markedOf (now (self .entry)) ⌝ }
     {
         self.small.go_back();
