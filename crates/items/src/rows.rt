@@ -7,10 +7,12 @@ use crate::records::ExternBlock;
 use crate::records::ExternCrate;
 use crate::records::Function;
 use crate::records::Impl;
+use crate::records::ItemIds;
 use crate::records::Macro2;
 use crate::records::MacroCall;
 use crate::records::MacroRules;
 use crate::records::Mod;
+use crate::records::ModKind;
 use crate::records::Static;
 use crate::records::Struct;
 use crate::records::Trait;
@@ -70,4 +72,18 @@ pub struct BigRow {
 pub struct IndexedItem {
     pub id: FileAstId,
     pub item: ModItem,
+}
+
+impl ModItem {
+    // The items inside a module or an extern block.
+    pub fn children(self) -> Option<ItemIds> {
+        match self {
+            ModItem::Small(SmallModItem::ExternBlock(block)) => Some(block.children),
+            ModItem::Big(BigModItem::Mod(module)) => match module.kind {
+                ModKind::Inline { items } => Some(items),
+                ModKind::Outline => None,
+            },
+            ModItem::Small(_) | ModItem::Big(_) => None,
+        }
+    }
 }

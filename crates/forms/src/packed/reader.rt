@@ -1,0 +1,98 @@
+// Reading the packed form into tables, from the front.
+ghost use mathlib.Core.Path.{_≡_};
+ghost use Prim.Native.Nat.{ℕ, _+_, _<_, _≤_};
+ghost use lib.ListN.{length, set};
+ghost use Rattle.std.specs.Results.{Cases};
+ghost use Rattle.forms.specs.Tables.{SpansWithin};
+use super::tables::Counts;
+use super::tables::Span;
+use crate::number::RefusalFromNumberFault;
+use crate::number::read_number;
+use syntax::node::Node;
+use syntax::refusal::Refusal;
+
+// Stores where there is room.
+fn put<T: Copy>(table: &mut [T], index: usize, entry: T)
+    ensures { λ _. ⌜ now (table .exit) ≡ set (now (table .entry)) index entry ⌝ }
+{
+    if index < table.len() {
+        table[index] = entry;
+    }
+}
+
+fn read_node(bytes: &[u8], at: usize) -> Result<(Node, usize), Refusal> {
+    let (kind, at) = read_number(bytes, at)?;
+    let (end, at) = read_number(bytes, at)?;
+    let (text, at) = read_number(bytes, at)?;
+    let (mark, at) = read_number(bytes, at)?;
+    let (from, at) = read_number(bytes, at)?;
+    let (to, at) = read_number(bytes, at)?;
+    let node = Node {
+        kind,
+        end,
+        text,
+        mark,
+        from,
+        to,
+    };
+    Ok((node, at))
+}
+
+// A text's length, and then its bytes.
+fn read_text(bytes: &[u8], at: usize) -> Result<(Span, usize), Refusal>
+    ensures { λ r. ⌜ Cases r (λ read. read .0 .start + read .0 .len ≤ length (now (bytes .entry))) (λ _. Unit {0}) ⌝ }
+{
+    let (len, start) = read_number(bytes, at)?;
+    let len = len as usize;
+    if len > bytes.len() - start {
+        return Err(Refusal::Form);
+    }
+    Ok((Span { start, len }, start + len))
+}
+
+// So many nodes, into the table as far as it goes.
+fn read_nodes(
+    bytes: &[u8],
+    start: usize,
+    count: u32,
+    table: &mut [Node],
+) -> Result<usize, Refusal> {
+    let mut at = start;
+    for i in 0..count as usize {
+        let (node, next) = read_node(bytes, at)?;
+        put(table, i, node);
+        at = next;
+    }
+    Ok(at)
+}
+
+// So many texts, their spans into the table as far as it goes.
+fn read_texts(bytes: &[u8], start: usize, count: u32, table: &mut [Span]) -> Result<usize, Refusal>
+    ensures { λ r. ⌜ Cases r (λ _. (count ≤ length (now (table .exit)) → SpansWithin (now (table .exit)) count (length (now (bytes .entry))))) (λ _. Unit {0}) ⌝ }
+{
+    let mut at = start;
+    for i in 0..count as usize {
+        let (span, next) = read_text(bytes, at)?;
+        put(table, i, span);
+        at = next;
+    }
+    Ok(at)
+}
+
+// The whole form. Counts and lengths are trusted here and judged later, so that a form that is
+// cut short is refused as such however absurd its counts are.
+pub fn read_form(bytes: &[u8], nodes: &mut [Node], texts: &mut [Span]) -> Result<Counts, Refusal>
+    ensures { λ r. ⌜ Cases r (λ counts. (counts .texts ≤ length (now (texts .exit)) → SpansWithin (now (texts .exit)) (counts .texts) (length (now (bytes .entry))))) (λ _. Unit {0}) ⌝ }
+{
+    let (node_count, at) = read_number(bytes, 0)?;
+    let (text_count, at) = read_number(bytes, at)?;
+    let at = read_nodes(bytes, at, node_count, nodes)?;
+    let at = read_texts(bytes, at, text_count, texts)?;
+    if at < bytes.len() {
+        return Err(Refusal::Form);
+    }
+    Ok(Counts {
+        nodes: node_count,
+        texts: text_count,
+    })
+}
