@@ -134,6 +134,13 @@ impl TreeTables {
         Ok(name)
     }
 
+    // The id at a place of the top level.
+    pub fn id_at(&self, place: usize) -> Option<ModItemId>
+        ensures { λ r. ⌜ r ≡ at (heldOf (now (self .entry)) .ids) place ⌝ }
+    {
+        self.ids.get(place)
+    }
+
     // Where the id of the next item goes.
     pub fn next_id_place(&self) -> usize
         ensures { λ r. ⌜ r ≡ length (heldOf (now (self .entry)) .ids) ⌝ ∗ ⌜ r ≤ 768 ⌝ }

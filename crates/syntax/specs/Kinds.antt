@@ -1,5 +1,7 @@
 -- The number of each kind of node.
+use mathlib.Core.Bool.{Bool, _&&_}
 use Prim.Native.Nat.{ℕ}
+use lib.Dec.{leb}
 use Rattle.syntax.specs.declared.kind.SyntaxKind.{SyntaxKind}
 use Rattle.syntax.specs.declared.kind.SyntaxKind.the-variants.{File, Struct, Union, Enum, Fn, TypeAlias, Static, Const, Module, Trait, Impl, Use, ExternCrate, MacroCall, MacroRules, MacroDef, ExternBlock, AsmExpr, Vis, Path, Segment, UseTree, Rename, Field, Attr}
 
@@ -29,3 +31,7 @@ numberOf UseTree = 33
 numberOf Rename = 34
 numberOf Field = 35
 numberOf Attr = 36
+
+-- items are the kinds from Struct to AsmExpr
+abbrev pub isItem : ℕ → Bool
+isItem kind = leb (numberOf Struct) kind && leb kind (numberOf AsmExpr)

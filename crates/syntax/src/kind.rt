@@ -1,7 +1,7 @@
 // The kinds of nodes, by number.
 ghost use mathlib.Core.Path.{_≡_};
 ghost use Rattle.std.specs.Options.{Cases};
-ghost use Rattle.syntax.specs.Kinds.{numberOf};
+ghost use Rattle.syntax.specs.Kinds.{isItem, numberOf};
 
 #[derive(Clone, Copy, PartialEq, Eq, Debug)]
 pub enum SyntaxKind {
@@ -98,4 +98,11 @@ impl SyntaxKind {
             _ => None,
         }
     }
+}
+
+// Whether a node of this kind is an item.
+pub fn is_item(kind: u32) -> bool
+    ensures { λ r. ⌜ r ≡ isItem kind ⌝ }
+{
+    10 <= kind && kind <= 26
 }

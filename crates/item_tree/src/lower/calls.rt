@@ -8,10 +8,13 @@ ghost use Rattle.lower.specs.Contents.{empty, heldOf, markedOf};
 use crate::lower::Ctx;
 use crate::lower::walk::lower_items;
 use items::attrs::AttrsOrCfg;
+use items::ids::ModItemId;
 use lower::tree_tables::TreeTables;
+use syntax::kind::is_item;
 use syntax::refusal::Refusal;
 use syntax::source::SyntaxSource;
 use syntax::walk::NodeRef;
+use syntax::walk::sibling_at;
 
 impl Ctx {
     // A new tree, which holds nothing.
@@ -21,6 +24,27 @@ impl Ctx {
         Ctx {
             tree: TreeTables::new(),
             begun: false,
+        }
+    }
+
+    // Lowers an item child of the root and appends it to the top level. Answers its id, or none where it is passed over.
+    pub fn lower_mod_item<S: SyntaxSource>(&mut self, source: &S, node: u32) -> Result<Option<ModItemId>, Refusal>
+        ensures { λ r. ⌜ Cases r (λ _. now (self .exit) .begun ≡ true) (λ _. (heldOf (now (self .exit) .tree) ≡ heldOf (now (self .entry) .tree)) × (now (self .exit) .begun ≡ now (self .entry) .begun)) ⌝ }
+    {
+        let Some(item) = root_item(source, node) else {
+            return Err(Refusal::NotAnItem);
+        };
+        self.tree.set_mark();
+        let place = self.tree.next_id_place();
+        match lower_items(&mut self.tree, source, node, item.node.end) {
+            Ok(()) => {
+                self.begun = true;
+                Ok(self.tree.id_at(place))
+            }
+            Err(refusal) => {
+                self.tree.go_back();
+                Err(refusal)
+            }
         }
     }
 
@@ -45,6 +69,21 @@ impl Ctx {
             }
         }
     }
+}
+
+// The child of the root that has this number, if it is an item.
+fn root_item<S: SyntaxSource>(source: &S, number: u32) -> Option<NodeRef> {
+    let Some(root) = source.node(0) else {
+        return None;
+    };
+    let mut at = 1;
+    while let Some(child) = sibling_at(source, at, root.end) {
+        if child.number == number {
+            return if is_item(child.node.kind) { Some(child) } else { None };
+        }
+        at = child.node.end;
+    }
+    None
 }
 
 // All that a file holds; answers its own attributes.
