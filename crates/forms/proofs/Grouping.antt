@@ -1,12 +1,12 @@
 -- Siblings made of a list: nothing is lost, and the first of them.
-use mathlib.Core.Path.{_≡_, refl, sym, ap, _∙_}
-use mathlib.Core.List.{List, [], _∷_, _++_}
+use mathlib.Core.Path.{_≡_, refl, ap, _∙_}
+use mathlib.Core.List.{List, [], _∷_}
 use Prim.Native.Nat.{ℕ, zero, suc, _+_, _-_, _≤_, _<_, min}
 use native.Mathlib.Omega.{arith}
-use lib.ListN.{length, take, drop, getD, length-take, length-drop, length-append, take-append-drop}
+use lib.ListN.{length, take, drop, getD, length-take, length-drop}
 use Rattle.std.proofs.shelf.Lists.{drop-more, drop-drop, drop-take, take-take}
 use Rattle.syntax.specs.declared.node.Node.{Node}
-use Rattle.forms.specs.Trees.{Siblings, none, node, size, listed, grouped, siblings, between}
+use Rattle.forms.specs.Trees.{Siblings, none, node, size, grouped, siblings, between}
 
 -- more steps than nodes change nothing
 grouped-enough : (s t i : ℕ) (xs : List Node) → length xs ≤ s → length xs ≤ t → grouped s i xs ≡ grouped t i xs

@@ -5,8 +5,10 @@ use mathlib.Core.List.{List, [], _∷_, _++_}
 use Prim.Native.Nat.{ℕ, zero, suc, _+_, _-_, _*_, _/_, _%_, _^_, _≤_, _<_}
 use native.Mathlib.Omega.{arith}
 use lib.Dec.{ltb}
+use lib.ListN.{length}
 use Rattle.std.proofs.shelf.Tests.{cases-lt, cond-true, cond-false, lt-ltb, le-ltb}
 use Rattle.forms.specs.declared.number.NumberFault.{NumberFault}
+use Rattle.forms.specs.declared.number.NumberFault.the-variants.{CutShort, TooWide, NotShortest}
 use Rattle.forms.specs.Numbers.{groups, encoded, bound, NumberFaulty, HigherFaulty}
 
 pub groups-one : (more n : ℕ) → n < 128 → groups more n ≡ n ∷ []
@@ -43,6 +45,12 @@ tails e = cc
 no-bytes : {b : ℕ} {bs : List ℕ} → [] ≡ b ∷ bs → ⊥
 no-bytes e = let never : _≡_ {A = ℕ} 0 1 = cc in omega arith
 
+not-cut : CutShort ≡ TooWide → ⊥
+not-cut e = let never : _≡_ {A = ℕ} 0 1 = cc in omega arith
+
+not-cut′ : CutShort ≡ NotShortest → ⊥
+not-cut′ e = let never : _≡_ {A = ℕ} 0 1 = cc in omega arith
+
 -- groups at the front of bytes: one that is the last, or one with others after it
 split-groups : (more n : ℕ) (bs rest : List ℕ) → bs ≡ groups (suc more) n ++ rest → ((n < 128) × (bs ≡ n ∷ rest)) ⊎ ((128 ≤ n) × (bs ≡ (128 + n % 128) ∷ (groups more (n / 128) ++ rest)))
 split-groups more n bs rest e =
@@ -61,7 +69,7 @@ no-higher (suc more) (b ∷ bs) fault n rest (inl w) some less e =
     ⊎-elim (λ p. omega (arith, w .0, heads (p .1))) (λ p. omega (arith, w .0, heads (p .1))) (split-groups more n (b ∷ bs) rest e)
 no-higher (suc more) (b ∷ bs) fault n rest (inr w) some less e =
     ⊎-elim
-    (λ p. omega (arith, p .0, w .0, heads (p .1)))
+    (λ p. omega (arith, p .0, w .0 .0, heads (p .1)))
     (λ p. no-higher more bs fault (n / 128) rest (w .1) (omega (arith, p .0)) (omega arith) (tails (p .1)))
     (split-groups more n (b ∷ bs) rest e)
 
@@ -70,7 +78,7 @@ unfolding encoded
 no-number [] fault n rest f less e = ⊎-elim (λ p. no-bytes (p .1)) (λ p. no-bytes (p .1)) (split-groups 3 n [] rest e)
 no-number (b ∷ bs) fault n rest f less e =
     ⊎-elim
-    (λ p. omega (arith, p .0, f .0, heads (p .1)))
+    (λ p. omega (arith, p .0, f .0 .0, heads (p .1)))
     (λ p. no-higher 3 bs fault (n / 128) rest (f .1) (omega (arith, p .0)) (omega arith) (tails (p .1)))
     (split-groups 3 n (b ∷ bs) rest e)
 
@@ -95,19 +103,32 @@ pub encoded-one : (m n : ℕ) (r s : List ℕ) → encoded m ++ r ≡ encoded n 
 unfolding encoded
 encoded-one m n r s e = one-number 4 m n (encoded m ++ r) r s refl e
 
--- a fault is one fault
-one-higher-fault : (more : ℕ) (bs : List ℕ) (d e : NumberFault) → HigherFaulty more bs d → HigherFaulty more bs e → d ≡ e
-one-higher-fault zero [] d e p q = p ∙ sym q
-one-higher-fault (suc more) [] d e p q = p ∙ sym q
-one-higher-fault zero (b ∷ bs) d e (inl p) (inl q) = p .1 ∙ sym (q .1)
-one-higher-fault zero (b ∷ bs) d e (inl p) (inr q) = absurd (omega (arith, p .0, q .0))
-one-higher-fault zero (b ∷ bs) d e (inr p) (inl q) = absurd (omega (arith, p .0, q .0))
-one-higher-fault zero (b ∷ bs) d e (inr p) (inr q) = p .1 ∙ sym (q .1)
-one-higher-fault (suc more) (b ∷ bs) d e (inl p) (inl q) = p .1 ∙ sym (q .1)
-one-higher-fault (suc more) (b ∷ bs) d e (inl p) (inr q) = absurd (omega (arith, p .0, q .0))
-one-higher-fault (suc more) (b ∷ bs) d e (inr p) (inl q) = absurd (omega (arith, p .0, q .0))
-one-higher-fault (suc more) (b ∷ bs) d e (inr p) (inr q) = one-higher-fault more bs d e (p .1) (q .1)
+-- a fault stays, whatever comes after, unless the bytes end too early
+higher-stays : (more : ℕ) (bs r : List ℕ) (fault : NumberFault) → (fault ≡ CutShort → ⊥) → HigherFaulty more bs fault → HigherFaulty more (bs ++ r) fault
+higher-stays zero [] r fault other f = absurd (other f)
+higher-stays (suc more) [] r fault other f = absurd (other f)
+higher-stays zero (b ∷ bs) r fault other f = f
+higher-stays (suc more) (b ∷ bs) r fault other (inl w) = inl w
+higher-stays (suc more) (b ∷ bs) r fault other (inr w) = inr (w .0, higher-stays more bs r fault other (w .1))
 
-pub one-fault : (bs : List ℕ) (d e : NumberFault) → NumberFaulty bs d → NumberFaulty bs e → d ≡ e
-one-fault [] d e p q = p ∙ sym q
-one-fault (b ∷ bs) d e p q = one-higher-fault 3 bs d e (p .1) (q .1)
+pub number-stays : (bs r : List ℕ) (fault : NumberFault) → (fault ≡ CutShort → ⊥) → NumberFaulty bs fault → NumberFaulty (bs ++ r) fault
+number-stays [] r fault other f = absurd (other f)
+number-stays (b ∷ bs) r fault other f = (f .0, higher-stays 3 bs r fault other (f .1))
+
+-- bytes that end too early can be completed
+higher-completed : (more : ℕ) (bs : List ℕ) → HigherFaulty more bs CutShort → (n : ℕ) × (rest : List ℕ) × (0 < n) × (n < bound more) × (0 < length rest) × (bs ++ rest ≡ groups more n)
+higher-completed zero [] f = (1, 1 ∷ [], omega arith, omega arith, omega arith, refl)
+higher-completed (suc more) [] f = (1, 1 ∷ [], omega arith, omega (arith, bound-least more), omega arith, sym (groups-one (suc more) 1 (omega arith)))
+higher-completed zero (b ∷ bs) (inl w) = absurd (not-cut (w .1))
+higher-completed zero (b ∷ bs) (inr w) = absurd (not-cut′ (w .1))
+higher-completed (suc more) (b ∷ bs) (inl w) = absurd (not-cut′ (w .1))
+higher-completed (suc more) (b ∷ bs) (inr w) =
+    let k = higher-completed more bs (w .1) in
+    (b - 128 + 128 * k .0, k .1, omega (arith, k .2), omega (arith, k .3, w .0), k .4, ap (λ l. b ∷ l) (k .5) ∙ sym (groups-above more b (k .0) (w .0 .0) (w .0 .1) (k .2)))
+
+pub number-completed : (bs : List ℕ) → NumberFaulty bs CutShort → (n : ℕ) × (rest : List ℕ) × (n < 2 ^ 32) × (0 < length rest) × (bs ++ rest ≡ encoded n)
+unfolding encoded
+number-completed [] f = (0, 0 ∷ [], omega arith, omega arith, sym (groups-one 4 0 (omega arith)))
+number-completed (b ∷ bs) f =
+    let k = higher-completed 3 bs (f .1) in
+    (b - 128 + 128 * k .0, k .1, omega (arith, k .3, f .0), k .4, ap (λ l. b ∷ l) (k .5) ∙ sym (groups-above 3 b (k .0) (f .0 .0) (f .0 .1) (k .2)))

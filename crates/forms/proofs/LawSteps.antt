@@ -1,12 +1,12 @@
 -- The law of siblings, one node at a time, and of the root.
 use mathlib.Core.Path.{_≡_, refl, sym, ap, _∙_}
-use mathlib.Core.Logic.{_⊎_, inl, inr, ⊎-elim}
+use mathlib.Core.Logic.{_⊎_, ⊎-elim}
 use mathlib.Core.Bool.{Bool, true, false, _&&_}
 use mathlib.Core.List.{List, [], _∷_}
 use Prim.Native.Nat.{ℕ, zero, suc, _+_, _-_, _≤_, _<_}
 use native.Mathlib.Omega.{arith}
-use lib.Dec.{eqb, leb}
-use lib.ListN.{length, take, drop, getD}
+use lib.Dec.{eqb}
+use lib.ListN.{length, getD}
 use Rattle.std.proofs.shelf.Lists.{take-rest}
 use Rattle.std.proofs.shelf.Tests.{eq-eqb, ne-eqb, and-left, and-right}
 use Rattle.syntax.specs.declared.node.Node.{Node}
@@ -46,7 +46,7 @@ module _ (texts : ℕ) (parent : Node) (least count : ℕ) (xs : List Node) (d :
   -- it does not: what is left to ask
   pub good-child : (levels : ℕ) → 0 < levels → i < x .end → x .end ≤ end → isChild texts parent least x ≡ true
       → areChildren texts parent least count levels i (between xs i end)
-          ≡ (areChildren texts x 0 0 (levels - 1) (i + 1) (between xs (i + 1) (x .end)) && areChildren texts parent (placeAfter parent x) (count + 1) levels (x .end) (between xs (x .end) end))
+      ≡ (areChildren texts x 0 0 (levels - 1) (i + 1) (between xs (i + 1) (x .end)) && areChildren texts parent (placeAfter parent x) (count + 1) levels (x .end) (between xs (x .end) end))
   good-child zero more up low h = absurd (omega arith)
   good-child (suc levels) more up low h =
       let last : x .end ≡ i + 1 + size (between xs (i + 1) (x .end)) = omega (arith, size-children xs d i end some in-list up low) in

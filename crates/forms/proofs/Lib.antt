@@ -6,3 +6,12 @@ pub mod Grouping
 pub mod LawSteps
 pub mod Texts
 pub mod Judging
+pub mod Fields
+pub mod Sequences
+pub mod Firmness
+pub mod FieldRows
+pub mod Codes
+pub mod Whole
+pub mod TableSteps
+pub mod Exactness
+pub mod Opened

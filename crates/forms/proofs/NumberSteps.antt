@@ -1,6 +1,6 @@
 -- The ways of reading a number.
 use mathlib.Core.Path.{_≡_, refl, sym, ap, subst, _∙_}
-use mathlib.Core.Logic.{_⊎_, inl, inr}
+use mathlib.Core.Logic.{inl, inr}
 use mathlib.Core.List.{List, [], _∷_, _++_}
 use Prim.Native.Nat.{ℕ, zero, suc, _+_, _-_, _*_, _^_, _≤_, _<_}
 use native.Mathlib.Omega.{arith}
@@ -11,7 +11,7 @@ use Rattle.std.specs.declared.result.Result.the-variants.{Ok, Err}
 use Rattle.std.proofs.shelf.Lists.{drop-more, drop-all}
 use Rattle.forms.specs.declared.number.NumberFault.{NumberFault}
 use Rattle.forms.specs.declared.number.NumberFault.the-variants.{CutShort, TooWide, NotShortest}
-use Rattle.forms.specs.Numbers.{groups, encoded, bound, NumberAt, HigherAt, NumberFaulty, HigherFaulty}
+use Rattle.forms.specs.Numbers.{groups, Continues, encoded, NumberAt, HigherAt, NumberFaulty, HigherFaulty}
 use Rattle.forms.proofs.Groups.{groups-one, groups-above, bound-least, no-number, encoded-one}
 
 module _ (bytes : List ℕ) (at : ℕ) where
@@ -39,13 +39,13 @@ module _ (bytes : List ℕ) (at : ℕ) where
     higher-long zero z = rw front (inr (z, refl))
     higher-long (suc more) z = rw front (inl (z, refl))
 
-    pub higher-fault : (more : ℕ) (fault : NumberFault) → 0 < more → 128 ≤ byte → HigherFaulty (more - 1) (drop (at + 1) bytes) fault → HigherFaulty more (drop at bytes) fault
+    pub higher-fault : (more : ℕ) (fault : NumberFault) → 0 < more → Continues byte → HigherFaulty (more - 1) (drop (at + 1) bytes) fault → HigherFaulty more (drop at bytes) fault
     higher-fault zero fault some set f = absurd (omega arith)
     higher-fault (suc more) fault some set f =
         let less : suc more - 1 ≡ more = omega arith in
         rw front (inr (set, subst (λ m. HigherFaulty m (drop (at + 1) bytes) fault) less f))
 
-    pub number-fault : (fault : NumberFault) → 128 ≤ byte → HigherFaulty 3 (drop (at + 1) bytes) fault → NumberFaulty (drop at bytes) fault
+    pub number-fault : (fault : NumberFault) → Continues byte → HigherFaulty 3 (drop (at + 1) bytes) fault → NumberFaulty (drop at bytes) fault
     number-fault fault set f = rw front (set, f)
 
     pub higher-last : (more : ℕ) → (more ≡ 0 → byte ≤ 15) → (byte ≡ 0 → ⊥) → byte < 128 → HigherAt bytes at more byte (at + 1)

@@ -5,4 +5,7 @@ pub mod Trees
 pub mod Law
 pub mod Tables
 pub mod Judged
+pub mod Form
+pub mod Reading
+pub mod Opening
 pub mod Meant

@@ -23,16 +23,20 @@ abbrev pub bound : ℕ → ℕ
 bound zero = 16
 bound (suc more) = 128 * bound more
 
+-- a byte with its top bit set
+abbrev pub Continues : ℕ → Type 0
+Continues b = (128 ≤ b) × (b < 256)
+
 -- the bytes after a first group have this fault
 abbrev pub HigherFaulty : ℕ → List ℕ → NumberFault → Type 0
 HigherFaulty more [] fault = fault ≡ CutShort
 HigherFaulty zero (b ∷ bs) fault = ((15 < b) × (fault ≡ TooWide)) ⊎ ((b ≡ 0) × (fault ≡ NotShortest))
-HigherFaulty (suc more) (b ∷ bs) fault = ((b ≡ 0) × (fault ≡ NotShortest)) ⊎ ((128 ≤ b) × HigherFaulty more bs fault)
+HigherFaulty (suc more) (b ∷ bs) fault = ((b ≡ 0) × (fault ≡ NotShortest)) ⊎ (Continues b × HigherFaulty more bs fault)
 
 -- no number stands at the front of the bytes, by this fault
 abbrev pub NumberFaulty : List ℕ → NumberFault → Type 0
 NumberFaulty [] fault = fault ≡ CutShort
-NumberFaulty (b ∷ bs) fault = (128 ≤ b) × HigherFaulty 3 bs fault
+NumberFaulty (b ∷ bs) fault = Continues b × HigherFaulty 3 bs fault
 
 -- from `at` to `next` stand the groups of n, which is not 0
 abbrev pub HigherAt : List ℕ → ℕ → ℕ → ℕ → ℕ → Type 0

@@ -1,5 +1,5 @@
 -- Nodes in source order, as trees: a node's `end` is the number after its last descendant.
-use mathlib.Core.List.{List, [], _∷_, _++_}
+use mathlib.Core.List.{List, [], _∷_}
 use Prim.Native.Nat.{ℕ, zero, suc, _+_, _-_}
 use lib.ListN.{length, take, drop}
 use Rattle.syntax.specs.declared.node.Node.{Node}
@@ -12,11 +12,6 @@ pub data Siblings : Type 0 where
 abbrev pub size : Siblings → ℕ
 size none = 0
 size (node x children later) = 1 + size children + size later
-
--- the nodes again, in source order
-abbrev pub listed : Siblings → List Node
-listed none = []
-listed (node x children later) = x ∷ (listed children ++ listed later)
 
 -- what the ends make of a list whose first node has number i, in at most `steps` steps
 abbrev pub grouped : ℕ → ℕ → List Node → Siblings

@@ -1,14 +1,16 @@
 // A syntax source over the packed form.
 ghost use mathlib.Core.Path.{_≡_};
+ghost use mathlib.Core.Bool.{true};
 ghost use Prim.Native.Nat.{_≤_};
 ghost use lib.ListN.{length};
-ghost use Rattle.forms.specs.Tables.{SpansWithin};
+ghost use Rattle.forms.specs.Law.{lawful};
+ghost use Rattle.forms.specs.Tables.{SpansWithin, tableMeaning};
 use tables::Counts;
 use tables::Tables;
 
-pub mod judge;
+mod judge;
 pub mod open;
-pub mod reader;
+mod reader;
 pub mod tables;
 
 // Its texts are lent from the caller's bytes.
@@ -20,4 +22,5 @@ pub struct PackedSource<'a> {
     ghost few: { (counts .nodes ≤ 4096) × (counts .texts ≤ 1024) },
     ghost room: { (length (tables .nodes) ≡ 4096) × (length (tables .texts) ≡ 1024) },
     ghost within: { SpansWithin (tables .texts) (counts .texts) (length (bytes .now)) },
+    ghost ruled: { lawful (tableMeaning (tables .nodes) (counts .nodes) (tables .texts) (counts .texts) (bytes .now)) ≡ true },
 }

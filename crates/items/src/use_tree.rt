@@ -13,11 +13,19 @@ pub enum ImportAlias {
 #[derive(Clone, Copy)]
 pub enum UseTreeKind {
     // `path::to::Item as Renamed`
-    Single { path: PathId, alias: Option<ImportAlias> },
+    Single {
+        path: PathId,
+        alias: Option<ImportAlias>,
+    },
     // `path::*`; `*` alone can stand in a group
-    Glob { path: Option<PathId> },
+    Glob {
+        path: Option<PathId>,
+    },
     // `prefix::{..}`; the members stand after it, up to `end`
-    Prefixed { prefix: Option<PathId>, end: u32 },
+    Prefixed {
+        prefix: Option<PathId>,
+        end: u32,
+    },
 }
 
 #[derive(Clone, Copy)]

@@ -85,7 +85,9 @@ impl Visibilities {
     pub fn new() -> Visibilities
         ensures { λ r. ⌜ held (r .rows) ≡ [] ⌝ }
     {
-        Visibilities { rows: Table::new(RawVisibility::Public) }
+        Visibilities {
+            rows: Table::new(RawVisibility::Public),
+        }
     }
 
     // The number of a module visibility, which is added where the table has none like it.
@@ -93,7 +95,9 @@ impl Visibilities {
         ensures { λ _. ⌜ marked (now (self .exit) .rows) ≡ marked (now (self .entry) .rows) ⌝ }
     {
         let index = insert_full(self, &visibility)?;
-        Ok(RawVisibilityId { number: index as u32 })
+        Ok(RawVisibilityId {
+            number: index as u32,
+        })
     }
 
     // The visibility that a number names: one of the four without a row, or a row.

@@ -56,7 +56,7 @@ heldOf c = record {
   paths = heldPaths (c .paths);
 }
 
-abbrev pub markedOf : TreeTables → Contents
+unfoldable pub markedOf : TreeTables → Contents
 markedOf c = record {
   small = marked (c .small);
   big = marked (c .big);

@@ -18,11 +18,13 @@ use items::rows::SmallModItem;
 use items::rows::SmallRow;
 use items::use_tree::UseTree;
 use items::use_tree::UseTreeKind;
+use items::visibility::RawVisibility;
 use items::visibility::Visibilities;
 use paths::interned::PathId;
 use paths::interned::Paths;
-use tables::table::Table;
+use paths::mod_path::ModPath;
 use syntax::refusal::Refusal;
+use tables::table::Table;
 
 const NONE: FileAstId = FileAstId { node: 0 };
 
@@ -57,7 +59,9 @@ impl TreeTables {
             top: None,
             visibilities: Visibilities::new(),
             ctors: Table::new(RawVisibilityId::PUB),
-            uses: Table::new(UseTree { kind: UseTreeKind::Glob { path: None } }),
+            uses: Table::new(UseTree {
+                kind: UseTreeKind::Glob { path: None },
+            }),
             paths: Paths::new(),
         }
     }
@@ -103,5 +107,48 @@ impl TreeTables {
             first: first as u32,
             count: count as u32,
         })
+    }
+
+    // The number of a path.
+    pub fn intern(&mut self, path: &ModPath) -> Result<PathId, Refusal>
+        ensures { λ _. ⌜ markedOf (now (self .exit)) ≡ markedOf (now (self .entry)) ⌝ }
+    {
+        self.paths.intern(path)
+    }
+
+    // The number of a module visibility.
+    pub fn record_visibility(&mut self, visibility: RawVisibility) -> Result<RawVisibilityId, Refusal>
+        ensures { λ _. ⌜ markedOf (now (self .exit)) ≡ markedOf (now (self .entry)) ⌝ }
+    {
+        self.visibilities.record(visibility)
+    }
+
+    // One visibility more in the last constructor's list.
+    pub fn push_ctor(&mut self, id: RawVisibilityId) -> Result<(), Refusal>
+        ensures { λ _. ⌜ markedOf (now (self .exit)) ≡ markedOf (now (self .entry)) ⌝ }
+    {
+        let _ = self.ctors.push(id)?;
+        Ok(())
+    }
+
+    pub fn push_attr(&mut self, attr: Attr) -> Result<(), Refusal>
+        ensures { λ _. ⌜ markedOf (now (self .exit)) ≡ markedOf (now (self .entry)) ⌝ }
+    {
+        let _ = self.attrs.push(attr)?;
+        Ok(())
+    }
+
+    // One use node more, and where it stands.
+    pub fn push_use(&mut self, kind: UseTreeKind) -> Result<usize, Refusal>
+        ensures { λ _. ⌜ markedOf (now (self .exit)) ≡ markedOf (now (self .entry)) ⌝ }
+    {
+        self.uses.push(UseTree { kind })
+    }
+
+    // Puts another use node where one stands that was lowered in this call.
+    pub fn replace_use(&mut self, place: usize, kind: UseTreeKind)
+        ensures { λ _. ⌜ markedOf (now (self .exit)) ≡ markedOf (now (self .entry)) ⌝ }
+    {
+        self.uses.replace(place, UseTree { kind });
     }
 }

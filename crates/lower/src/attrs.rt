@@ -20,7 +20,11 @@ use syntax::walk::sibling_at;
 
 // A text's number, unless it is 0.
 fn text_of(node: Node) -> Option<u32> {
-    if node.text == 0 { None } else { Some(node.text) }
+    if node.text == 0 {
+        None
+    } else {
+        Some(node.text)
+    }
 }
 
 // What follows an attribute's path.
@@ -55,7 +59,11 @@ enum Collected {
 
 impl TreeTables {
     // The attributes of a node; none where the list is enabled and empty.
-    pub fn lower_attrs<S: SyntaxSource>(&mut self, source: &S, owner: NodeRef) -> Result<Option<AttrsOrCfg>, Refusal>
+    pub fn lower_attrs<S: SyntaxSource>(
+        &mut self,
+        source: &S,
+        owner: NodeRef,
+    ) -> Result<Option<AttrsOrCfg>, Refusal>
         ensures { λ _. ⌜ markedOf (now (self .exit)) ≡ markedOf (now (self .entry)) ⌝ }
     {
         let first = self.attrs.len();
@@ -70,24 +78,33 @@ impl TreeTables {
             }
             at = child.node.end;
         }
-        let attrs = AttrsOrCfg::Enabled { attrs: self.attrs_from(first) };
-        if attrs.is_empty() { Ok(None) } else { Ok(Some(attrs)) }
+        let attrs = AttrsOrCfg::Enabled {
+            attrs: self.attrs_from(first),
+        };
+        if attrs.is_empty() {
+            Ok(None)
+        } else {
+            Ok(Some(attrs))
+        }
     }
 
-    fn lower_attr<S: SyntaxSource>(&mut self, source: &S, attr: NodeRef) -> Result<Collected, Refusal>
+    fn lower_attr<S: SyntaxSource>(
+        &mut self,
+        source: &S,
+        attr: NodeRef,
+    ) -> Result<Collected, Refusal>
         ensures { λ _. ⌜ markedOf (now (self .exit)) ≡ markedOf (now (self .entry)) ⌝ }
     {
         match attr.node.mark {
             3 => Ok(Collected::GoOn),
-            4 => Ok(Collected::Disabled(CfgExpr { text: text_of(attr.node) })),
+            4 => Ok(Collected::Disabled(CfgExpr {
+                text: text_of(attr.node),
+            })),
             _ => {
-                let path = self.paths.intern(&path_of(source, attr))?;
+                let path = self.intern(&path_of(source, attr))?;
                 let input = input_of(attr.node);
-                let _ = self.attrs.push(Attr {
-                    path,
-                    input,
-                    ctxt: SyntaxContext::ROOT,
-                })?;
+                let ctxt = SyntaxContext::ROOT;
+                self.push_attr(Attr { path, input, ctxt })?;
                 Ok(Collected::GoOn)
             }
         }

@@ -21,7 +21,11 @@ use syntax::walk::NodeRef;
 use syntax::walk::child_of_kind;
 
 impl TreeTables {
-    pub fn lower_struct<S: SyntaxSource>(&mut self, source: &S, strukt: NodeRef) -> Result<Option<BigModItem>, Refusal>
+    pub fn lower_struct<S: SyntaxSource>(
+        &mut self,
+        source: &S,
+        strukt: NodeRef,
+    ) -> Result<Option<BigModItem>, Refusal>
         ensures { λ _. ⌜ markedOf (now (self .exit)) ≡ markedOf (now (self .entry)) ⌝ }
     {
         let visibility = self.lower_visibility(source, strukt)?;
@@ -29,10 +33,19 @@ impl TreeTables {
             return Ok(None);
         };
         let ctor = self.lower_ctor(source, strukt, visibility)?;
-        Ok(Some(BigModItem::Struct(Struct { name, visibility, ctor })))
+        Ok(Some(BigModItem::Struct(Struct {
+            name,
+            visibility,
+            ctor,
+        })))
     }
 
-    fn lower_ctor<S: SyntaxSource>(&mut self, source: &S, strukt: NodeRef, visibility: RawVisibilityId) -> Result<StructValueNsCtor, Refusal>
+    fn lower_ctor<S: SyntaxSource>(
+        &mut self,
+        source: &S,
+        strukt: NodeRef,
+        visibility: RawVisibilityId,
+    ) -> Result<StructValueNsCtor, Refusal>
         ensures { λ _. ⌜ markedOf (now (self .exit)) ≡ markedOf (now (self .entry)) ⌝ }
     {
         let Some(shape) = FieldsShape::of_mark(strukt.node.mark) else {
@@ -45,7 +58,11 @@ impl TreeTables {
         }
     }
 
-    pub fn lower_use<S: SyntaxSource>(&mut self, source: &S, use_item: NodeRef) -> Result<Option<BigModItem>, Refusal>
+    pub fn lower_use<S: SyntaxSource>(
+        &mut self,
+        source: &S,
+        use_item: NodeRef,
+    ) -> Result<Option<BigModItem>, Refusal>
         ensures { λ _. ⌜ markedOf (now (self .exit)) ≡ markedOf (now (self .entry)) ⌝ }
     {
         let visibility = self.lower_visibility(source, use_item)?;
@@ -62,10 +79,17 @@ impl TreeTables {
             first: first as u32,
             count: count as u32,
         };
-        Ok(Some(BigModItem::Use(Use { visibility, use_tree })))
+        Ok(Some(BigModItem::Use(Use {
+            visibility,
+            use_tree,
+        })))
     }
 
-    pub fn lower_extern_crate<S: SyntaxSource>(&mut self, source: &S, extern_crate: NodeRef) -> Result<Option<BigModItem>, Refusal>
+    pub fn lower_extern_crate<S: SyntaxSource>(
+        &mut self,
+        source: &S,
+        extern_crate: NodeRef,
+    ) -> Result<Option<BigModItem>, Refusal>
         ensures { λ _. ⌜ markedOf (now (self .exit)) ≡ markedOf (now (self .entry)) ⌝ }
     {
         let Some(name) = Name::of_text(extern_crate.node.text) else {
@@ -73,11 +97,19 @@ impl TreeTables {
         };
         let alias = alias_of(source, extern_crate);
         let visibility = self.lower_visibility(source, extern_crate)?;
-        Ok(Some(BigModItem::ExternCrate(ExternCrate { name, alias, visibility })))
+        Ok(Some(BigModItem::ExternCrate(ExternCrate {
+            name,
+            alias,
+            visibility,
+        })))
     }
 
     // `mod m;`
-    pub fn lower_outline_module<S: SyntaxSource>(&mut self, source: &S, module: NodeRef) -> Result<Option<BigModItem>, Refusal>
+    pub fn lower_outline_module<S: SyntaxSource>(
+        &mut self,
+        source: &S,
+        module: NodeRef,
+    ) -> Result<Option<BigModItem>, Refusal>
         ensures { λ _. ⌜ markedOf (now (self .exit)) ≡ markedOf (now (self .entry)) ⌝ }
     {
         let Some(name) = Name::of_text(module.node.text) else {

@@ -25,7 +25,11 @@ use syntax::walk::NodeRef;
 use syntax::walk::child_of_kind;
 
 impl TreeTables {
-    pub fn lower_union<S: SyntaxSource>(&mut self, source: &S, union: NodeRef) -> Result<Option<SmallModItem>, Refusal>
+    pub fn lower_union<S: SyntaxSource>(
+        &mut self,
+        source: &S,
+        union: NodeRef,
+    ) -> Result<Option<SmallModItem>, Refusal>
         ensures { λ _. ⌜ markedOf (now (self .exit)) ≡ markedOf (now (self .entry)) ⌝ }
     {
         let visibility = self.lower_visibility(source, union)?;
@@ -35,7 +39,11 @@ impl TreeTables {
         Ok(Some(SmallModItem::Union(Union { name, visibility })))
     }
 
-    pub fn lower_enum<S: SyntaxSource>(&mut self, source: &S, enum_: NodeRef) -> Result<Option<SmallModItem>, Refusal>
+    pub fn lower_enum<S: SyntaxSource>(
+        &mut self,
+        source: &S,
+        enum_: NodeRef,
+    ) -> Result<Option<SmallModItem>, Refusal>
         ensures { λ _. ⌜ markedOf (now (self .exit)) ≡ markedOf (now (self .entry)) ⌝ }
     {
         let visibility = self.lower_visibility(source, enum_)?;
@@ -45,7 +53,11 @@ impl TreeTables {
         Ok(Some(SmallModItem::Enum(Enum { name, visibility })))
     }
 
-    pub fn lower_function<S: SyntaxSource>(&mut self, source: &S, func: NodeRef) -> Result<Option<SmallModItem>, Refusal>
+    pub fn lower_function<S: SyntaxSource>(
+        &mut self,
+        source: &S,
+        func: NodeRef,
+    ) -> Result<Option<SmallModItem>, Refusal>
         ensures { λ _. ⌜ markedOf (now (self .exit)) ≡ markedOf (now (self .entry)) ⌝ }
     {
         let visibility = self.lower_visibility(source, func)?;
@@ -55,7 +67,11 @@ impl TreeTables {
         Ok(Some(SmallModItem::Function(Function { name, visibility })))
     }
 
-    pub fn lower_type_alias<S: SyntaxSource>(&mut self, source: &S, alias: NodeRef) -> Result<Option<SmallModItem>, Refusal>
+    pub fn lower_type_alias<S: SyntaxSource>(
+        &mut self,
+        source: &S,
+        alias: NodeRef,
+    ) -> Result<Option<SmallModItem>, Refusal>
         ensures { λ _. ⌜ markedOf (now (self .exit)) ≡ markedOf (now (self .entry)) ⌝ }
     {
         let Some(name) = Name::of_text(alias.node.text) else {
@@ -65,7 +81,11 @@ impl TreeTables {
         Ok(Some(SmallModItem::TypeAlias(TypeAlias { name, visibility })))
     }
 
-    pub fn lower_static<S: SyntaxSource>(&mut self, source: &S, static_: NodeRef) -> Result<Option<SmallModItem>, Refusal>
+    pub fn lower_static<S: SyntaxSource>(
+        &mut self,
+        source: &S,
+        static_: NodeRef,
+    ) -> Result<Option<SmallModItem>, Refusal>
         ensures { λ _. ⌜ markedOf (now (self .exit)) ≡ markedOf (now (self .entry)) ⌝ }
     {
         let Some(name) = Name::of_text(static_.node.text) else {
@@ -75,7 +95,11 @@ impl TreeTables {
         Ok(Some(SmallModItem::Static(Static { name, visibility })))
     }
 
-    pub fn lower_const<S: SyntaxSource>(&mut self, source: &S, konst: NodeRef) -> Result<Option<SmallModItem>, Refusal>
+    pub fn lower_const<S: SyntaxSource>(
+        &mut self,
+        source: &S,
+        konst: NodeRef,
+    ) -> Result<Option<SmallModItem>, Refusal>
         ensures { λ _. ⌜ markedOf (now (self .exit)) ≡ markedOf (now (self .entry)) ⌝ }
     {
         let name = Name::of_text(konst.node.text);
@@ -83,7 +107,11 @@ impl TreeTables {
         Ok(Some(SmallModItem::Const(Const { name, visibility })))
     }
 
-    pub fn lower_trait<S: SyntaxSource>(&mut self, source: &S, trait_def: NodeRef) -> Result<Option<SmallModItem>, Refusal>
+    pub fn lower_trait<S: SyntaxSource>(
+        &mut self,
+        source: &S,
+        trait_def: NodeRef,
+    ) -> Result<Option<SmallModItem>, Refusal>
         ensures { λ _. ⌜ markedOf (now (self .exit)) ≡ markedOf (now (self .entry)) ⌝ }
     {
         let Some(name) = Name::of_text(trait_def.node.text) else {
@@ -93,7 +121,11 @@ impl TreeTables {
         Ok(Some(SmallModItem::Trait(Trait { name, visibility })))
     }
 
-    pub fn lower_macro_call<S: SyntaxSource>(&mut self, source: &S, call: NodeRef) -> Result<Option<SmallModItem>, Refusal>
+    pub fn lower_macro_call<S: SyntaxSource>(
+        &mut self,
+        source: &S,
+        call: NodeRef,
+    ) -> Result<Option<SmallModItem>, Refusal>
         ensures { λ _. ⌜ markedOf (now (self .exit)) ≡ markedOf (now (self .entry)) ⌝ }
     {
         let Some(path) = child_of_kind(source, call, SyntaxKind::Path) else {
@@ -105,7 +137,7 @@ impl TreeTables {
         let Some(expand) = ExpandTo::of_mark(call.node.mark) else {
             return Ok(None);
         };
-        let path = self.paths.intern(&path)?;
+        let path = self.intern(&path)?;
         Ok(Some(SmallModItem::MacroCall(MacroCall {
             path,
             expand,
@@ -113,7 +145,11 @@ impl TreeTables {
         })))
     }
 
-    pub fn lower_macro_def<S: SyntaxSource>(&mut self, source: &S, def: NodeRef) -> Result<Option<SmallModItem>, Refusal>
+    pub fn lower_macro_def<S: SyntaxSource>(
+        &mut self,
+        source: &S,
+        def: NodeRef,
+    ) -> Result<Option<SmallModItem>, Refusal>
         ensures { λ _. ⌜ markedOf (now (self .exit)) ≡ markedOf (now (self .entry)) ⌝ }
     {
         let Some(name) = Name::of_text(def.node.text) else {
@@ -125,7 +161,9 @@ impl TreeTables {
 }
 
 pub fn lower_impl(impl_def: NodeRef) -> SmallModItem {
-    SmallModItem::Impl(Impl { of_trait: impl_def.node.mark == 1 })
+    SmallModItem::Impl(Impl {
+        of_trait: impl_def.node.mark == 1,
+    })
 }
 
 pub fn lower_macro_rules(rules: NodeRef) -> Option<SmallModItem> {

@@ -3,7 +3,6 @@ ghost use mathlib.Core.Path.{_≡_};
 ghost use Rattle.lower.specs.Contents.{markedOf};
 use crate::tree_tables::TreeTables;
 use items::use_tree::ImportAlias;
-use items::use_tree::UseTree;
 use items::use_tree::UseTreeKind;
 use paths::mod_path::ModPath;
 use paths::mod_path::PathKind;
@@ -69,7 +68,11 @@ fn path_of<S: SyntaxSource>(source: &S, tree: NodeRef) -> UsePath {
 
 impl TreeTables {
     // The record of a use node, with no members yet, unless the node is passed over.
-    fn lower_use_kind<S: SyntaxSource>(&mut self, source: &S, tree: NodeRef) -> Result<Option<UseTreeKind>, Refusal>
+    fn lower_use_kind<S: SyntaxSource>(
+        &mut self,
+        source: &S,
+        tree: NodeRef,
+    ) -> Result<Option<UseTreeKind>, Refusal>
         ensures { λ _. ⌜ markedOf (now (self .exit)) ≡ markedOf (now (self .entry)) ⌝ }
     {
         let Some(mark) = UseMark::of_mark(tree.node.mark) else {
@@ -86,13 +89,17 @@ impl TreeTables {
         }
     }
 
-    fn lower_single(&mut self, path: &UsePath, alias: Option<ImportAlias>) -> Result<Option<UseTreeKind>, Refusal>
+    fn lower_single(
+        &mut self,
+        path: &UsePath,
+        alias: Option<ImportAlias>,
+    ) -> Result<Option<UseTreeKind>, Refusal>
         ensures { λ _. ⌜ markedOf (now (self .exit)) ≡ markedOf (now (self .entry)) ⌝ }
     {
         let UsePath::Read(path) = path else {
             return Ok(None);
         };
-        let path = self.paths.intern(path)?;
+        let path = self.intern(path)?;
         Ok(Some(UseTreeKind::Single { path, alias }))
     }
 
@@ -103,7 +110,7 @@ impl TreeTables {
             UsePath::Unreadable => Ok(None),
             UsePath::Absent => Ok(Some(UseTreeKind::Glob { path: None })),
             UsePath::Read(path) => {
-                let path = self.paths.intern(path)?;
+                let path = self.intern(path)?;
                 Ok(Some(UseTreeKind::Glob { path: Some(path) }))
             }
         }
@@ -114,22 +121,33 @@ impl TreeTables {
     {
         match path {
             UsePath::Unreadable => Ok(None),
-            UsePath::Absent => Ok(Some(UseTreeKind::Prefixed { prefix: None, end: 0 })),
+            UsePath::Absent => Ok(Some(UseTreeKind::Prefixed {
+                prefix: None,
+                end: 0,
+            })),
             UsePath::Read(path) => {
-                let prefix = self.paths.intern(path)?;
-                Ok(Some(UseTreeKind::Prefixed { prefix: Some(prefix), end: 0 }))
+                let prefix = self.intern(path)?;
+                Ok(Some(UseTreeKind::Prefixed {
+                    prefix: Some(prefix),
+                    end: 0,
+                }))
             }
         }
     }
 
     // Lowers a use node and then its members, unless it is passed over; `depth` levels may follow.
-    pub fn lower_use_tree<S: SyntaxSource>(&mut self, source: &S, tree: NodeRef, depth: u32) -> Result<(), Refusal>
+    pub fn lower_use_tree<S: SyntaxSource>(
+        &mut self,
+        source: &S,
+        tree: NodeRef,
+        depth: u32,
+    ) -> Result<(), Refusal>
         ensures { λ _. ⌜ markedOf (now (self .exit)) ≡ markedOf (now (self .entry)) ⌝ }
     {
         let Some(kind) = self.lower_use_kind(source, tree)? else {
             return Ok(());
         };
-        let place = self.uses.push(UseTree { kind })?;
+        let place = self.push_use(kind)?;
         let UseTreeKind::Prefixed { prefix, .. } = kind else {
             return Ok(());
         };
@@ -142,7 +160,7 @@ impl TreeTables {
         }
         let end = self.uses.len() as u32;
         let kind = UseTreeKind::Prefixed { prefix, end };
-        self.uses.replace(place, UseTree { kind });
+        self.replace_use(place, kind);
         Ok(())
     }
 }

@@ -71,14 +71,21 @@ enum Least {
 }
 
 impl TreeTables {
-    pub fn lower_visibility<S: SyntaxSource>(&mut self, source: &S, item: NodeRef) -> Result<RawVisibilityId, Refusal>
+    pub fn lower_visibility<S: SyntaxSource>(
+        &mut self,
+        source: &S,
+        item: NodeRef,
+    ) -> Result<RawVisibilityId, Refusal>
         ensures { λ _. ⌜ markedOf (now (self .exit)) ≡ markedOf (now (self .entry)) ⌝ }
     {
         let visibility = visibility_from_ast(source, item);
         self.alloc_visibility(&visibility)
     }
 
-    pub fn alloc_visibility(&mut self, visibility: &WrittenVisibility) -> Result<RawVisibilityId, Refusal>
+    pub fn alloc_visibility(
+        &mut self,
+        visibility: &WrittenVisibility,
+    ) -> Result<RawVisibilityId, Refusal>
         ensures { λ _. ⌜ markedOf (now (self .exit)) ≡ markedOf (now (self .entry)) ⌝ }
     {
         match visibility {
@@ -92,13 +99,16 @@ impl TreeTables {
     fn alloc_module_visibility(&mut self, path: &ModPath) -> Result<RawVisibilityId, Refusal>
         ensures { λ _. ⌜ markedOf (now (self .exit)) ≡ markedOf (now (self .entry)) ⌝ }
     {
-        let path = self.paths.intern(path)?;
-        self.visibilities
-            .record(RawVisibility::Module(path, VisibilityExplicitness::Explicit))
+        let path = self.intern(path)?;
+        self.record_visibility(RawVisibility::Module(path, VisibilityExplicitness::Explicit))
     }
 
     // The constructor of a tuple struct.
-    pub fn tuple_struct_ctor_vis<S: SyntaxSource>(&mut self, source: &S, strukt: NodeRef) -> Result<StructValueNsCtor, Refusal>
+    pub fn tuple_struct_ctor_vis<S: SyntaxSource>(
+        &mut self,
+        source: &S,
+        strukt: NodeRef,
+    ) -> Result<StructValueNsCtor, Refusal>
         ensures { λ _. ⌜ markedOf (now (self .exit)) ≡ markedOf (now (self .entry)) ⌝ }
     {
         let own = visibility_from_ast(source, strukt);
@@ -115,7 +125,12 @@ impl TreeTables {
         Ok(self.ctor_of(least))
     }
 
-    fn narrowed_by_fields<S: SyntaxSource>(&mut self, source: &S, strukt: NodeRef, own: Least) -> Result<Least, Refusal>
+    fn narrowed_by_fields<S: SyntaxSource>(
+        &mut self,
+        source: &S,
+        strukt: NodeRef,
+        own: Least,
+    ) -> Result<Least, Refusal>
         ensures { λ _. ⌜ markedOf (now (self .exit)) ≡ markedOf (now (self .entry)) ⌝ }
     {
         let mut least = own;
@@ -158,13 +173,13 @@ impl TreeTables {
                     return Ok(least);
                 }
                 let first = self.ctors.len();
-                let _ = self.ctors.push(other)?;
-                let _ = self.ctors.push(id)?;
+                self.push_ctor(other)?;
+                self.push_ctor(id)?;
                 Ok(Least::Modules(first))
             }
             Least::Modules(first) => {
                 if !self.is_listed(first, id) {
-                    let _ = self.ctors.push(id)?;
+                    self.push_ctor(id)?;
                 }
                 Ok(least)
             }
@@ -202,5 +217,9 @@ impl TreeTables {
 
 // The number of a private visibility.
 fn private_id(explicitness: VisibilityExplicitness) -> RawVisibilityId {
-    if explicitness.is_explicit() { RawVisibilityId::PRIV_EXPLICIT } else { RawVisibilityId::PRIV_IMPLICIT }
+    if explicitness.is_explicit() {
+        RawVisibilityId::PRIV_EXPLICIT
+    } else {
+        RawVisibilityId::PRIV_IMPLICIT
+    }
 }

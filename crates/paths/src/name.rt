@@ -10,6 +10,10 @@ pub enum Name {
 impl Name {
     // The name that a node with this text number has.
     pub fn of_text(text: u32) -> Option<Name> {
-        if text == 0 { None } else { Some(Name::Text(text)) }
+        if text == 0 {
+            None
+        } else {
+            Some(Name::Text(text))
+        }
     }
 }

@@ -45,7 +45,13 @@ fn expand_to_word(expand: ExpandTo) -> &'static [u8] {
 }
 
 impl Out<'_> {
-    fn print_named<S: SyntaxSource>(&mut self, tree: &TreeTables, source: &S, indent: &mut Indent, named: Named) -> Result<(), Refusal>
+    fn print_named<S: SyntaxSource>(
+        &mut self,
+        tree: &TreeTables,
+        source: &S,
+        indent: &mut Indent,
+        named: Named,
+    ) -> Result<(), Refusal>
         ensures { λ _. ⌜ now (indent .exit) .level ≡ now (indent .entry) .level ⌝ }
     {
         self.print_ast_id(indent, named.id);
@@ -56,7 +62,14 @@ impl Out<'_> {
         Ok(())
     }
 
-    fn print_use<S: SyntaxSource>(&mut self, tree: &TreeTables, source: &S, indent: &mut Indent, id: FileAstId, item: Use) -> Result<(), Refusal>
+    fn print_use<S: SyntaxSource>(
+        &mut self,
+        tree: &TreeTables,
+        source: &S,
+        indent: &mut Indent,
+        id: FileAstId,
+        item: Use,
+    ) -> Result<(), Refusal>
         ensures { λ _. ⌜ now (indent .exit) .level ≡ now (indent .entry) .level ⌝ }
     {
         self.print_ast_id(indent, id);
@@ -67,7 +80,14 @@ impl Out<'_> {
         Ok(())
     }
 
-    fn print_extern_crate<S: SyntaxSource>(&mut self, tree: &TreeTables, source: &S, indent: &mut Indent, id: FileAstId, item: ExternCrate) -> Result<(), Refusal>
+    fn print_extern_crate<S: SyntaxSource>(
+        &mut self,
+        tree: &TreeTables,
+        source: &S,
+        indent: &mut Indent,
+        id: FileAstId,
+        item: ExternCrate,
+    ) -> Result<(), Refusal>
         ensures { λ _. ⌜ now (indent .exit) .level ≡ now (indent .entry) .level ⌝ }
     {
         self.print_ast_id(indent, id);
@@ -79,7 +99,14 @@ impl Out<'_> {
         Ok(())
     }
 
-    fn print_const<S: SyntaxSource>(&mut self, tree: &TreeTables, source: &S, indent: &mut Indent, id: FileAstId, item: Const) -> Result<(), Refusal>
+    fn print_const<S: SyntaxSource>(
+        &mut self,
+        tree: &TreeTables,
+        source: &S,
+        indent: &mut Indent,
+        id: FileAstId,
+        item: Const,
+    ) -> Result<(), Refusal>
         ensures { λ _. ⌜ now (indent .exit) .level ≡ now (indent .entry) .level ⌝ }
     {
         self.print_ast_id(indent, id);
@@ -93,7 +120,14 @@ impl Out<'_> {
         Ok(())
     }
 
-    fn print_macro_call<S: SyntaxSource>(&mut self, tree: &TreeTables, source: &S, indent: &mut Indent, id: FileAstId, item: MacroCall) -> Result<(), Refusal>
+    fn print_macro_call<S: SyntaxSource>(
+        &mut self,
+        tree: &TreeTables,
+        source: &S,
+        indent: &mut Indent,
+        id: FileAstId,
+        item: MacroCall,
+    ) -> Result<(), Refusal>
         ensures { λ _. ⌜ now (indent .exit) .level ≡ now (indent .entry) .level ⌝ }
     {
         self.say(indent, b"// AstId: ");
@@ -108,7 +142,13 @@ impl Out<'_> {
         Ok(())
     }
 
-    fn print_macro_rules<S: SyntaxSource>(&mut self, source: &S, indent: &mut Indent, id: FileAstId, item: MacroRules) -> Result<(), Refusal>
+    fn print_macro_rules<S: SyntaxSource>(
+        &mut self,
+        source: &S,
+        indent: &mut Indent,
+        id: FileAstId,
+        item: MacroRules,
+    ) -> Result<(), Refusal>
         ensures { λ _. ⌜ now (indent .exit) .level ≡ now (indent .entry) .level ⌝ }
     {
         self.print_ast_id(indent, id);
@@ -119,7 +159,14 @@ impl Out<'_> {
     }
 
     // The text of a small item, up to the brace where items follow.
-    fn print_small<S: SyntaxSource>(&mut self, tree: &TreeTables, source: &S, indent: &mut Indent, id: FileAstId, item: SmallModItem) -> Result<(), Refusal>
+    fn print_small<S: SyntaxSource>(
+        &mut self,
+        tree: &TreeTables,
+        source: &S,
+        indent: &mut Indent,
+        id: FileAstId,
+        item: SmallModItem,
+    ) -> Result<(), Refusal>
         ensures { λ _. ⌜ now (indent .exit) .level ≡ now (indent .entry) .level ⌝ }
     {
         let (visibility, word, name, ending): (RawVisibilityId, &[u8], Name, &[u8]) = match item {
@@ -131,12 +178,29 @@ impl Out<'_> {
             SmallModItem::TypeAlias(it) => (it.visibility, b"type ", it.name, b";\n"),
             SmallModItem::Macro2(it) => (it.visibility, b"macro ", it.name, b" { ... }\n"),
             SmallModItem::Const(it) => return self.print_const(tree, source, indent, id, it),
-            SmallModItem::MacroCall(it) => return self.print_macro_call(tree, source, indent, id, it),
+            SmallModItem::MacroCall(it) => return self.print_macro_call(
+                tree,
+                source,
+                indent,
+                id,
+                it,
+            ),
             SmallModItem::MacroRules(it) => return self.print_macro_rules(source, indent, id, it),
             SmallModItem::Impl(_) => return Ok(self.print_nameless(indent, id, b"impl { ... }")),
             SmallModItem::ExternBlock(_) => return Ok(self.print_nameless(indent, id, b"extern {")),
         };
-        self.print_named(tree, source, indent, Named { id, visibility, word, name, ending })
+        self.print_named(
+            tree,
+            source,
+            indent,
+            Named {
+                id,
+                visibility,
+                word,
+                name,
+                ending,
+            },
+        )
     }
 
     fn print_nameless(&mut self, indent: &mut Indent, id: FileAstId, text: &[u8])
@@ -147,14 +211,32 @@ impl Out<'_> {
     }
 
     // The text of a big item, up to the brace where items follow.
-    fn print_big<S: SyntaxSource>(&mut self, tree: &TreeTables, source: &S, indent: &mut Indent, id: FileAstId, item: BigModItem) -> Result<(), Refusal>
+    fn print_big<S: SyntaxSource>(
+        &mut self,
+        tree: &TreeTables,
+        source: &S,
+        indent: &mut Indent,
+        id: FileAstId,
+        item: BigModItem,
+    ) -> Result<(), Refusal>
         ensures { λ _. ⌜ now (indent .exit) .level ≡ now (indent .entry) .level ⌝ }
     {
         match item {
             BigModItem::Struct(it) => {
                 let visibility = it.visibility;
                 let name = it.name;
-                self.print_named(tree, source, indent, Named { id, visibility, word: b"struct ", name, ending: b" { ... }\n" })
+                self.print_named(
+                    tree,
+                    source,
+                    indent,
+                    Named {
+                        id,
+                        visibility,
+                        word: b"struct ",
+                        name,
+                        ending: b" { ... }\n",
+                    },
+                )
             }
             BigModItem::Mod(it) => self.print_module(tree, source, indent, id, it),
             BigModItem::Use(it) => self.print_use(tree, source, indent, id, it),
@@ -162,7 +244,14 @@ impl Out<'_> {
         }
     }
 
-    fn print_module<S: SyntaxSource>(&mut self, tree: &TreeTables, source: &S, indent: &mut Indent, id: FileAstId, item: Mod) -> Result<(), Refusal>
+    fn print_module<S: SyntaxSource>(
+        &mut self,
+        tree: &TreeTables,
+        source: &S,
+        indent: &mut Indent,
+        id: FileAstId,
+        item: Mod,
+    ) -> Result<(), Refusal>
         ensures { λ _. ⌜ now (indent .exit) .level ≡ now (indent .entry) .level ⌝ }
     {
         let visibility = item.visibility;
@@ -171,11 +260,29 @@ impl Out<'_> {
             ModKind::Inline { .. } => b" {",
             ModKind::Outline => b";\n",
         };
-        self.print_named(tree, source, indent, Named { id, visibility, word: b"mod ", name, ending })
+        self.print_named(
+            tree,
+            source,
+            indent,
+            Named {
+                id,
+                visibility,
+                word: b"mod ",
+                name,
+                ending,
+            },
+        )
     }
 
     // An item with its attributes and the items inside it, which stand at most `depth` levels down.
-    pub(crate) fn print_mod_item<S: SyntaxSource>(&mut self, tree: &TreeTables, source: &S, indent: &mut Indent, id: ModItemId, depth: u32) -> Result<(), Refusal>
+    pub(crate) fn print_mod_item<S: SyntaxSource>(
+        &mut self,
+        tree: &TreeTables,
+        source: &S,
+        indent: &mut Indent,
+        id: ModItemId,
+        depth: u32,
+    ) -> Result<(), Refusal>
         ensures { λ _. ⌜ now (indent .exit) .level ≡ now (indent .entry) .level ⌝ }
     {
         if let Some(attrs) = tree.attrs(id)? {
@@ -196,7 +303,14 @@ impl Out<'_> {
     }
 
     // The items between braces, one level deeper.
-    fn print_inside<S: SyntaxSource>(&mut self, tree: &TreeTables, source: &S, indent: &mut Indent, items: ItemIds, depth: u32) -> Result<(), Refusal>
+    fn print_inside<S: SyntaxSource>(
+        &mut self,
+        tree: &TreeTables,
+        source: &S,
+        indent: &mut Indent,
+        items: ItemIds,
+        depth: u32,
+    ) -> Result<(), Refusal>
         ensures { λ _. ⌜ now (indent .exit) .level ≡ now (indent .entry) .level ⌝ }
     {
         let before = indent.level;

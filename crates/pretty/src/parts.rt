@@ -19,7 +19,12 @@ use syntax::refusal::Refusal;
 use syntax::source::SyntaxSource;
 
 impl Out<'_> {
-    fn print_text<S: SyntaxSource>(&mut self, source: &S, indent: &mut Indent, number: u32) -> Result<(), Refusal>
+    fn print_text<S: SyntaxSource>(
+        &mut self,
+        source: &S,
+        indent: &mut Indent,
+        number: u32,
+    ) -> Result<(), Refusal>
         ensures { λ _. ⌜ now (indent .exit) .level ≡ now (indent .entry) .level ⌝ }
     {
         let Some(text) = source.text(number) else {
@@ -29,7 +34,12 @@ impl Out<'_> {
         Ok(())
     }
 
-    pub(crate) fn print_name<S: SyntaxSource>(&mut self, source: &S, indent: &mut Indent, name: Name) -> Result<(), Refusal>
+    pub(crate) fn print_name<S: SyntaxSource>(
+        &mut self,
+        source: &S,
+        indent: &mut Indent,
+        name: Name,
+    ) -> Result<(), Refusal>
         ensures { λ _. ⌜ now (indent .exit) .level ≡ now (indent .entry) .level ⌝ }
     {
         match name {
@@ -70,7 +80,13 @@ impl Out<'_> {
         }
     }
 
-    pub(crate) fn print_path<S: SyntaxSource>(&mut self, tree: &TreeTables, source: &S, indent: &mut Indent, id: PathId) -> Result<(), Refusal>
+    pub(crate) fn print_path<S: SyntaxSource>(
+        &mut self,
+        tree: &TreeTables,
+        source: &S,
+        indent: &mut Indent,
+        id: PathId,
+    ) -> Result<(), Refusal>
         ensures { λ _. ⌜ now (indent .exit) .level ≡ now (indent .entry) .level ⌝ }
     {
         let path = tree.path(id)?;
@@ -85,7 +101,12 @@ impl Out<'_> {
         Ok(())
     }
 
-    fn print_alias<S: SyntaxSource>(&mut self, source: &S, indent: &mut Indent, alias: ImportAlias) -> Result<(), Refusal>
+    fn print_alias<S: SyntaxSource>(
+        &mut self,
+        source: &S,
+        indent: &mut Indent,
+        alias: ImportAlias,
+    ) -> Result<(), Refusal>
         ensures { λ _. ⌜ now (indent .exit) .level ≡ now (indent .entry) .level ⌝ }
     {
         match alias {
@@ -98,7 +119,12 @@ impl Out<'_> {
     }
 
     // ` as alias`, where there is one.
-    pub(crate) fn print_rename<S: SyntaxSource>(&mut self, source: &S, indent: &mut Indent, alias: Option<ImportAlias>) -> Result<(), Refusal>
+    pub(crate) fn print_rename<S: SyntaxSource>(
+        &mut self,
+        source: &S,
+        indent: &mut Indent,
+        alias: Option<ImportAlias>,
+    ) -> Result<(), Refusal>
         ensures { λ _. ⌜ now (indent .exit) .level ≡ now (indent .entry) .level ⌝ }
     {
         if let Some(alias) = alias {
@@ -108,7 +134,14 @@ impl Out<'_> {
         Ok(())
     }
 
-    fn print_attr<S: SyntaxSource>(&mut self, tree: &TreeTables, source: &S, indent: &mut Indent, attr: Attr, opening: &[u8]) -> Result<(), Refusal>
+    fn print_attr<S: SyntaxSource>(
+        &mut self,
+        tree: &TreeTables,
+        source: &S,
+        indent: &mut Indent,
+        attr: Attr,
+        opening: &[u8],
+    ) -> Result<(), Refusal>
         ensures { λ _. ⌜ now (indent .exit) .level ≡ now (indent .entry) .level ⌝ }
     {
         self.say(indent, opening);
@@ -122,7 +155,14 @@ impl Out<'_> {
         Ok(())
     }
 
-    fn print_attr_list<S: SyntaxSource>(&mut self, tree: &TreeTables, source: &S, indent: &mut Indent, attrs: AttrsOwned, opening: &[u8]) -> Result<(), Refusal>
+    fn print_attr_list<S: SyntaxSource>(
+        &mut self,
+        tree: &TreeTables,
+        source: &S,
+        indent: &mut Indent,
+        attrs: AttrsOwned,
+        opening: &[u8],
+    ) -> Result<(), Refusal>
         ensures { λ _. ⌜ now (indent .exit) .level ≡ now (indent .entry) .level ⌝ }
     {
         for i in 0..attrs.count {
@@ -133,11 +173,24 @@ impl Out<'_> {
     }
 
     // Attributes one to a line; `opening` is `#[`, or `#![` at the top level.
-    pub(crate) fn print_attrs<S: SyntaxSource>(&mut self, tree: &TreeTables, source: &S, indent: &mut Indent, attrs: AttrsOrCfg, opening: &[u8]) -> Result<(), Refusal>
+    pub(crate) fn print_attrs<S: SyntaxSource>(
+        &mut self,
+        tree: &TreeTables,
+        source: &S,
+        indent: &mut Indent,
+        attrs: AttrsOrCfg,
+        opening: &[u8],
+    ) -> Result<(), Refusal>
         ensures { λ _. ⌜ now (indent .exit) .level ≡ now (indent .entry) .level ⌝ }
     {
         match attrs {
-            AttrsOrCfg::Enabled { attrs } => self.print_attr_list(tree, source, indent, attrs, opening),
+            AttrsOrCfg::Enabled { attrs } => self.print_attr_list(
+                tree,
+                source,
+                indent,
+                attrs,
+                opening,
+            ),
             AttrsOrCfg::CfgDisabled { cfg, attrs } => {
                 self.print_attr_list(tree, source, indent, attrs, opening)?;
                 self.say(indent, opening);
@@ -151,7 +204,13 @@ impl Out<'_> {
         }
     }
 
-    pub(crate) fn print_visibility<S: SyntaxSource>(&mut self, tree: &TreeTables, source: &S, indent: &mut Indent, id: RawVisibilityId) -> Result<(), Refusal>
+    pub(crate) fn print_visibility<S: SyntaxSource>(
+        &mut self,
+        tree: &TreeTables,
+        source: &S,
+        indent: &mut Indent,
+        id: RawVisibilityId,
+    ) -> Result<(), Refusal>
         ensures { λ _. ⌜ now (indent .exit) .level ≡ now (indent .entry) .level ⌝ }
     {
         match tree.raw_visibility(id)? {
@@ -168,7 +227,13 @@ impl Out<'_> {
     }
 
     // `path::`, where there is a path.
-    fn print_prefix<S: SyntaxSource>(&mut self, tree: &TreeTables, source: &S, indent: &mut Indent, prefix: Option<PathId>) -> Result<(), Refusal>
+    fn print_prefix<S: SyntaxSource>(
+        &mut self,
+        tree: &TreeTables,
+        source: &S,
+        indent: &mut Indent,
+        prefix: Option<PathId>,
+    ) -> Result<(), Refusal>
         ensures { λ _. ⌜ now (indent .exit) .level ≡ now (indent .entry) .level ⌝ }
     {
         if let Some(path) = prefix {
@@ -179,7 +244,14 @@ impl Out<'_> {
     }
 
     // The use node at `at`, with its members `depth` levels down; answers where the next one stands.
-    pub(crate) fn print_use_tree<S: SyntaxSource>(&mut self, tree: &TreeTables, source: &S, indent: &mut Indent, at: u32, depth: u32) -> Result<u32, Refusal>
+    pub(crate) fn print_use_tree<S: SyntaxSource>(
+        &mut self,
+        tree: &TreeTables,
+        source: &S,
+        indent: &mut Indent,
+        at: u32,
+        depth: u32,
+    ) -> Result<u32, Refusal>
         ensures { λ _. ⌜ now (indent .exit) .level ≡ now (indent .entry) .level ⌝ }
     {
         match tree.use_tree(at)?.kind {

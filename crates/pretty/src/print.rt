@@ -15,7 +15,11 @@ use syntax::source::SyntaxSource;
 const MAX_DEPTH: u32 = 40;
 
 // One run over the tree: it writes what finds room in `buf`, and answers how long the text is.
-fn print_into<S: SyntaxSource>(tree: &ItemTree, source: &S, buf: &mut [u8]) -> Result<usize, Refusal> {
+fn print_into<S: SyntaxSource>(
+    tree: &ItemTree,
+    source: &S,
+    buf: &mut [u8],
+) -> Result<usize, Refusal> {
     let mut out = Out::new(buf);
     let mut indent = Indent::new();
     let tables = tree.tables();
@@ -30,7 +34,11 @@ fn print_into<S: SyntaxSource>(tree: &ItemTree, source: &S, buf: &mut [u8]) -> R
 }
 
 // The text of a tree over the texts of its source, from the front of `buf`; answers its length.
-pub fn print_item_tree<S: SyntaxSource>(tree: &ItemTree, source: &S, buf: &mut [u8]) -> Result<usize, Refusal>
+pub fn print_item_tree<S: SyntaxSource>(
+    tree: &ItemTree,
+    source: &S,
+    buf: &mut [u8],
+) -> Result<usize, Refusal>
     ensures { λ r. ⌜ Cases r (λ len. len ≤ length (now (buf .entry))) (λ _. now (buf .exit) ≡ now (buf .entry)) ⌝ }
 {
     // the first run finds what is missing and how much room it takes, and writes nothing

@@ -1,11 +1,10 @@
 // Keys by index, no two of them alike, in a table that is lent.
-ghost use mathlib.Core.Logic.{_⊎_};
 ghost use mathlib.Core.Path.{_≡_};
 ghost use Prim.Native.Nat.{ℕ, _<_};
 ghost use Rattle.std.specs.Options.{Cases as BySome};
 ghost use Rattle.std.specs.declared.result.Result.{Result as Answer};
-ghost use Rattle.std.specs.declared.result.Result.the-variants.{Ok};
 ghost use Rattle.syntax.specs.declared.refusal.Refusal.{Refusal as Why};
+ghost use Rattle.tables.specs.Insertion.{Inserted};
 use syntax::refusal::Refusal;
 
 // A table of keys, as an index set needs it.
@@ -39,7 +38,7 @@ fn find<K, T: KeyTable<K>>(table: &T, key: &K) -> Option<usize>
 
 // The index of a key, which is appended where none is alike.
 pub fn insert_full<K, T: KeyTable<K>>(table: &mut T, key: &K) -> Result<usize, Refusal>
-    ensures { λ r. ⌜ (((i : ℕ) × (i < count (now (table .entry))) × (r ≡ Ok i) × (now (table .exit) ≡ now (table .entry))) ⊎ appends (now (table .entry)) (now (key .entry)) r (now (table .exit))) ⌝ }
+    ensures { λ r. ⌜ Inserted count appends (now (table .entry)) (now (key .entry)) r (now (table .exit)) ⌝ }
 {
     if let Some(index) = find(table, key) {
         return Ok(index);

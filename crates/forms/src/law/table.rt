@@ -1,8 +1,8 @@
 // The table of kinds: which marks a kind has, and which children, in which order.
 ghost use mathlib.Core.Path.{_≡_};
-ghost use Rattle.forms.specs.Table.{isItem, markFits, isGroup, takesVis, takesItem, takesPath, takes, placeOf, single, countFits};
-use syntax::node::Node;
+ghost use Rattle.forms.specs.Table.{markFits, isGroup, takesVis, takesItem, takesPath, takes, placeOf, single, countFits};
 
+// The kinds by number, for `match`: any other number is no kind.
 pub const FILE: u32 = 0;
 
 const STRUCT: u32 = 10;

@@ -1,6 +1,6 @@
 // Whether what was read keeps the limits and the law.
 ghost use mathlib.Core.Path.{_≡_};
-ghost use Prim.Native.Nat.{ℕ, _+_, _<_, _≤_};
+ghost use Prim.Native.Nat.{_+_, _<_, _≤_};
 ghost use lib.ListN.{length, drop, getD};
 ghost use Rattle.std.specs.shelf.Text.{sameBytes};
 ghost use Rattle.forms.specs.Law.{among, isText, lawfulTexts};

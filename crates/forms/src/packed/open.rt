@@ -3,6 +3,7 @@ ghost use mathlib.Core.Path.{_≡_};
 ghost use mathlib.Core.List.{[], _∷_};
 ghost use Rattle.std.specs.Results.{Cases};
 ghost use Rattle.forms.specs.Meant.{meaningOf};
+ghost use Rattle.forms.specs.Opening.{Opens, Refuses};
 use super::PackedSource;
 use super::judge::is_lawful;
 use super::reader::read_form;
@@ -63,7 +64,8 @@ impl<'a> PackedSource<'a> {
 
     // Opens the packed form in this slot, or says why not and leaves the slot as it was.
     pub fn open(&mut self, bytes: &'a [u8]) -> Result<(), Refusal>
-        ensures { λ r. ⌜ Cases r (λ _. now (self .exit) .bytes .now ≡ now (bytes .entry)) (λ _. now (self .exit) ≡ now (self .entry)) ⌝ }
+        ensures answers { λ r. ⌜ Cases r (λ _. Opens (now (bytes .entry)) (meaningOf (now (self .exit)))) (λ e. Refuses (now (bytes .entry)) e) ⌝ }
+        ensures keeps { λ r. ⌜ Cases r (λ _. Unit {0}) (λ _. now (self .exit) ≡ now (self .entry)) ⌝ }
     {
         let mut nodes = [EMPTY_FILE; 4096];
         let mut texts = [NO_SPAN; 1024];

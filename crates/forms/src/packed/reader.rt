@@ -1,9 +1,12 @@
 // Reading the packed form into tables, from the front.
 ghost use mathlib.Core.Path.{_≡_};
-ghost use Prim.Native.Nat.{ℕ, _+_, _<_, _≤_};
-ghost use lib.ListN.{length, set};
+ghost use Prim.Native.Nat.{_+_, _≤_};
+ghost use lib.ListN.{length, drop, set};
+ghost use Rattle.std.specs.Joined.{joined};
 ghost use Rattle.std.specs.Results.{Cases};
-ghost use Rattle.forms.specs.Tables.{SpansWithin};
+ghost use Rattle.forms.specs.Form.{nodeFields, textFields};
+ghost use Rattle.forms.specs.Reading.{Any, OfLength, Stands, Fails, NodesRead, TextsRead, FormRead, Unread};
+ghost use Rattle.forms.specs.Tables.{spanned};
 use super::tables::Counts;
 use super::tables::Span;
 use crate::number::RefusalFromNumberFault;
@@ -20,7 +23,9 @@ fn put<T: Copy>(table: &mut [T], index: usize, entry: T)
     }
 }
 
-fn read_node(bytes: &[u8], at: usize) -> Result<(Node, usize), Refusal> {
+fn read_node(bytes: &[u8], at: usize) -> Result<(Node, usize), Refusal>
+    ensures { λ r. ⌜ Cases r (λ read. Stands Any nodeFields (drop at (now (bytes .entry))) (read .0) (drop (read .1) (now (bytes .entry)))) (λ e. Fails Any nodeFields (drop at (now (bytes .entry))) e) ⌝ }
+{
     let (kind, at) = read_number(bytes, at)?;
     let (end, at) = read_number(bytes, at)?;
     let (text, at) = read_number(bytes, at)?;
@@ -40,7 +45,7 @@ fn read_node(bytes: &[u8], at: usize) -> Result<(Node, usize), Refusal> {
 
 // A text's length, and then its bytes.
 fn read_text(bytes: &[u8], at: usize) -> Result<(Span, usize), Refusal>
-    ensures { λ r. ⌜ Cases r (λ read. read .0 .start + read .0 .len ≤ length (now (bytes .entry))) (λ _. Unit {0}) ⌝ }
+    ensures { λ r. ⌜ Cases r (λ read. Stands Any textFields (drop at (now (bytes .entry))) (spanned (now (bytes .entry)) (read .0)) (drop (read .1) (now (bytes .entry))) × (read .0 .start + read .0 .len ≤ length (now (bytes .entry)))) (λ e. Fails Any textFields (drop at (now (bytes .entry))) e) ⌝ }
 {
     let (len, start) = read_number(bytes, at)?;
     let len = len as usize;
@@ -51,12 +56,9 @@ fn read_text(bytes: &[u8], at: usize) -> Result<(Span, usize), Refusal>
 }
 
 // So many nodes, into the table as far as it goes.
-fn read_nodes(
-    bytes: &[u8],
-    start: usize,
-    count: u32,
-    table: &mut [Node],
-) -> Result<usize, Refusal> {
+fn read_nodes(bytes: &[u8], start: usize, count: u32, table: &mut [Node]) -> Result<usize, Refusal>
+    ensures { λ r. ⌜ Cases r (λ next. NodesRead (now (bytes .entry)) start count (now (table .exit)) next) (λ e. Fails (OfLength count) (joined nodeFields) (drop start (now (bytes .entry))) e) ⌝ }
+{
     let mut at = start;
     for i in 0..count as usize {
         let (node, next) = read_node(bytes, at)?;
@@ -68,7 +70,7 @@ fn read_nodes(
 
 // So many texts, their spans into the table as far as it goes.
 fn read_texts(bytes: &[u8], start: usize, count: u32, table: &mut [Span]) -> Result<usize, Refusal>
-    ensures { λ r. ⌜ Cases r (λ _. (count ≤ length (now (table .exit)) → SpansWithin (now (table .exit)) count (length (now (bytes .entry))))) (λ _. Unit {0}) ⌝ }
+    ensures { λ r. ⌜ Cases r (λ next. TextsRead (now (bytes .entry)) start count (now (table .exit)) next) (λ e. Fails (OfLength count) (joined textFields) (drop start (now (bytes .entry))) e) ⌝ }
 {
     let mut at = start;
     for i in 0..count as usize {
@@ -82,7 +84,7 @@ fn read_texts(bytes: &[u8], start: usize, count: u32, table: &mut [Span]) -> Res
 // The whole form. Counts and lengths are trusted here and judged later, so that a form that is
 // cut short is refused as such however absurd its counts are.
 pub fn read_form(bytes: &[u8], nodes: &mut [Node], texts: &mut [Span]) -> Result<Counts, Refusal>
-    ensures { λ r. ⌜ Cases r (λ counts. (counts .texts ≤ length (now (texts .exit)) → SpansWithin (now (texts .exit)) (counts .texts) (length (now (bytes .entry))))) (λ _. Unit {0}) ⌝ }
+    ensures { λ r. ⌜ Cases r (λ counts. FormRead (now (bytes .entry)) (now (nodes .exit)) (counts .nodes) (now (texts .exit)) (counts .texts)) (λ e. Unread (now (bytes .entry)) e) ⌝ }
 {
     let (node_count, at) = read_number(bytes, 0)?;
     let (text_count, at) = read_number(bytes, at)?;

@@ -28,7 +28,11 @@ impl Ctx {
     }
 
     // Lowers an item child of the root and appends it to the top level. Answers its id, or none where it is passed over.
-    pub fn lower_mod_item<S: SyntaxSource>(&mut self, source: &S, node: u32) -> Result<Option<ModItemId>, Refusal>
+    pub fn lower_mod_item<S: SyntaxSource>(
+        &mut self,
+        source: &S,
+        node: u32,
+    ) -> Result<Option<ModItemId>, Refusal>
         ensures { λ r. ⌜ Cases r (λ _. now (self .exit) .begun ≡ true) (λ _. (heldOf (now (self .exit) .tree) ≡ heldOf (now (self .entry) .tree)) × (now (self .exit) .begun ≡ now (self .entry) .begun)) ⌝ }
     {
         let Some(item) = root_item(source, node) else {
@@ -79,7 +83,11 @@ fn root_item<S: SyntaxSource>(source: &S, number: u32) -> Option<NodeRef> {
     let mut at = 1;
     while let Some(child) = sibling_at(source, at, root.end) {
         if child.number == number {
-            return if is_item(child.node.kind) { Some(child) } else { None };
+            return if is_item(child.node.kind) {
+                Some(child)
+            } else {
+                None
+            };
         }
         at = child.node.end;
     }
@@ -87,7 +95,10 @@ fn root_item<S: SyntaxSource>(source: &S, number: u32) -> Option<NodeRef> {
 }
 
 // All that a file holds; answers its own attributes.
-fn lower_file<S: SyntaxSource>(tree: &mut TreeTables, source: &S) -> Result<Option<AttrsOrCfg>, Refusal>
+fn lower_file<S: SyntaxSource>(
+    tree: &mut TreeTables,
+    source: &S,
+) -> Result<Option<AttrsOrCfg>, Refusal>
     ensures { λ _. ⌜ markedOf (now (tree .exit)) ≡ markedOf (now (tree .entry)) ⌝ }
 {
     let Some(node) = source.node(0) else {

@@ -1,9 +1,6 @@
 // The loop that lowers items and those inside them, with a stack of the nodes that are open.
 ghost use mathlib.Core.Path.{_≡_};
 ghost use Rattle.lower.specs.Contents.{markedOf};
-use lower::small::lower_impl;
-use lower::small::lower_macro_rules;
-use lower::tree_tables::TreeTables;
 use items::ids::FileAstId;
 use items::ids::RawVisibilityId;
 use items::records::ExternBlock;
@@ -13,6 +10,9 @@ use items::rows::BigModItem;
 use items::rows::BigRow;
 use items::rows::SmallModItem;
 use items::rows::SmallRow;
+use lower::small::lower_impl;
+use lower::small::lower_macro_rules;
+use lower::tree_tables::TreeTables;
 use paths::name::Name;
 use syntax::kind::SyntaxKind;
 use syntax::node::Node;
@@ -24,7 +24,10 @@ use syntax::walk::sibling_at;
 // What is open: an item whose children are lowered before it gets its id.
 #[derive(Clone, Copy)]
 enum Container {
-    Module { name: Name, visibility: RawVisibilityId },
+    Module {
+        name: Name,
+        visibility: RawVisibilityId,
+    },
     ExternBlock,
 }
 
@@ -59,7 +62,12 @@ const NOTHING_OPEN: Open = Open {
 };
 
 // Lowers the items among the siblings from `start` to `stop`.
-pub(crate) fn lower_items<S: SyntaxSource>(tree: &mut TreeTables, source: &S, start: u32, stop: u32) -> Result<(), Refusal>
+pub(crate) fn lower_items<S: SyntaxSource>(
+    tree: &mut TreeTables,
+    source: &S,
+    start: u32,
+    stop: u32,
+) -> Result<(), Refusal>
     ensures { λ _. ⌜ markedOf (now (tree .exit)) ≡ markedOf (now (tree .entry)) ⌝ }
 {
     let mut stack = [NOTHING_OPEN; MAX_DEPTH];
@@ -78,7 +86,9 @@ pub(crate) fn lower_items<S: SyntaxSource>(tree: &mut TreeTables, source: &S, st
             continue;
         };
         let container = lower_mod_item(tree, source, item)?;
-        if let Some(container) = container && depth < MAX_DEPTH {
+        if let Some(container) = container
+            && depth < MAX_DEPTH
+        {
             let from = tree.next_id_place();
             stack[depth] = Open {
                 container,
@@ -96,7 +106,11 @@ pub(crate) fn lower_items<S: SyntaxSource>(tree: &mut TreeTables, source: &S, st
 }
 
 // Lowers a node that has no items inside it, or answers what it opens.
-fn lower_mod_item<S: SyntaxSource>(tree: &mut TreeTables, source: &S, item: NodeRef) -> Result<Option<Container>, Refusal>
+fn lower_mod_item<S: SyntaxSource>(
+    tree: &mut TreeTables,
+    source: &S,
+    item: NodeRef,
+) -> Result<Option<Container>, Refusal>
     ensures { λ _. ⌜ markedOf (now (tree .exit)) ≡ markedOf (now (tree .entry)) ⌝ }
 {
     let Some(kind) = SyntaxKind::of(item.node.kind) else {
@@ -115,7 +129,12 @@ fn lower_mod_item<S: SyntaxSource>(tree: &mut TreeTables, source: &S, item: Node
     Ok(None)
 }
 
-fn lower_small_item<S: SyntaxSource>(tree: &mut TreeTables, source: &S, item: NodeRef, kind: SyntaxKind) -> Result<Option<SmallModItem>, Refusal>
+fn lower_small_item<S: SyntaxSource>(
+    tree: &mut TreeTables,
+    source: &S,
+    item: NodeRef,
+    kind: SyntaxKind,
+) -> Result<Option<SmallModItem>, Refusal>
     ensures { λ _. ⌜ markedOf (now (tree .exit)) ≡ markedOf (now (tree .entry)) ⌝ }
 {
     match kind {
@@ -134,7 +153,12 @@ fn lower_small_item<S: SyntaxSource>(tree: &mut TreeTables, source: &S, item: No
     }
 }
 
-fn lower_big_item<S: SyntaxSource>(tree: &mut TreeTables, source: &S, item: NodeRef, kind: SyntaxKind) -> Result<Option<BigModItem>, Refusal>
+fn lower_big_item<S: SyntaxSource>(
+    tree: &mut TreeTables,
+    source: &S,
+    item: NodeRef,
+    kind: SyntaxKind,
+) -> Result<Option<BigModItem>, Refusal>
     ensures { λ _. ⌜ markedOf (now (tree .exit)) ≡ markedOf (now (tree .entry)) ⌝ }
 {
     match kind {
@@ -147,7 +171,11 @@ fn lower_big_item<S: SyntaxSource>(tree: &mut TreeTables, source: &S, item: Node
 }
 
 // A module with a name is opened.
-fn open_module<S: SyntaxSource>(tree: &mut TreeTables, source: &S, module: NodeRef) -> Result<Option<Container>, Refusal>
+fn open_module<S: SyntaxSource>(
+    tree: &mut TreeTables,
+    source: &S,
+    module: NodeRef,
+) -> Result<Option<Container>, Refusal>
     ensures { λ _. ⌜ markedOf (now (tree .exit)) ≡ markedOf (now (tree .entry)) ⌝ }
 {
     let Some(name) = Name::of_text(module.node.text) else {
@@ -165,7 +193,16 @@ fn close<S: SyntaxSource>(tree: &mut TreeTables, source: &S, open: Open) -> Resu
     match open.container {
         Container::Module { name, visibility } => {
             let kind = ModKind::Inline { items };
-            add_big(tree, source, open.node, BigModItem::Mod(Mod { name, visibility, kind }))
+            add_big(
+                tree,
+                source,
+                open.node,
+                BigModItem::Mod(Mod {
+                    name,
+                    visibility,
+                    kind,
+                }),
+            )
         }
         Container::ExternBlock => {
             let block = ExternBlock { children: items };
@@ -174,7 +211,12 @@ fn close<S: SyntaxSource>(tree: &mut TreeTables, source: &S, open: Open) -> Resu
     }
 }
 
-fn add_small<S: SyntaxSource>(tree: &mut TreeTables, source: &S, node: NodeRef, item: SmallModItem) -> Result<(), Refusal>
+fn add_small<S: SyntaxSource>(
+    tree: &mut TreeTables,
+    source: &S,
+    node: NodeRef,
+    item: SmallModItem,
+) -> Result<(), Refusal>
     ensures { λ _. ⌜ markedOf (now (tree .exit)) ≡ markedOf (now (tree .entry)) ⌝ }
 {
     let attrs = tree.lower_attrs(source, node)?;
@@ -182,7 +224,12 @@ fn add_small<S: SyntaxSource>(tree: &mut TreeTables, source: &S, node: NodeRef, 
     tree.alloc_small(SmallRow { id, item, attrs })
 }
 
-fn add_big<S: SyntaxSource>(tree: &mut TreeTables, source: &S, node: NodeRef, item: BigModItem) -> Result<(), Refusal>
+fn add_big<S: SyntaxSource>(
+    tree: &mut TreeTables,
+    source: &S,
+    node: NodeRef,
+    item: BigModItem,
+) -> Result<(), Refusal>
     ensures { λ _. ⌜ markedOf (now (tree .exit)) ≡ markedOf (now (tree .entry)) ⌝ }
 {
     let attrs = tree.lower_attrs(source, node)?;

@@ -11,15 +11,16 @@ use crate::interned::PathId;
 use crate::interned::Paths;
 use crate::mod_path::ModPath;
 use crate::mod_path::PathKind;
+use crate::mod_path::PathKindPartialEq;
 use crate::name::Name;
+use crate::name::NamePartialEq;
 use syntax::refusal::Refusal;
 use tables::index_set::KeyTable;
 use tables::index_set::insert_full;
 use tables::table::Table;
-use crate::mod_path::PathKindPartialEq;
-use crate::name::NamePartialEq;
 
 const MAX_PATHS: usize = 512;
+
 const MAX_ALL_SEGMENTS: usize = 2048;
 
 impl InternedPath {
@@ -106,7 +107,9 @@ impl Paths {
         ensures { λ _. ⌜ markedPaths (now (self .exit)) ≡ markedPaths (now (self .entry)) ⌝ }
     {
         let index = insert_full(self, path)?;
-        Ok(PathId { number: index as u32 })
+        Ok(PathId {
+            number: index as u32,
+        })
     }
 
     // The path of a number.

@@ -59,12 +59,20 @@ impl ModPath {
     }
 
     pub fn segment(&self, index: usize) -> Option<Name> {
-        if index < self.len { Some(self.segments[index]) } else { None }
+        if index < self.len {
+            Some(self.segments[index])
+        } else {
+            None
+        }
     }
 
     // The path that a Path node spells, unless it is unreadable.
     pub fn from_src<S: SyntaxSource>(source: &S, path: NodeRef) -> Option<ModPath> {
-        let kind = if path.node.mark == 1 { PathKind::Abs } else { PathKind::Plain };
+        let kind = if path.node.mark == 1 {
+            PathKind::Abs
+        } else {
+            PathKind::Plain
+        };
         let mut read = ModPath::from_kind(kind);
         let mut at = path.first_child();
         while let Some(segment) = sibling_at(source, at, path.node.end) {

@@ -23,7 +23,7 @@ pub returns-in-Break-higher : need.returns-in-Break-higher
 returns-in-Break-higher t c =
     let p = err-from-errBy (c .from-residual .result) (c .from-residual .ensures .1) in
     let some : 0 < c .args .more = ⊎-elim (λ p. absurd (omega (arith, p .1, c .if-byte-lt128 .left))) (λ n. omega (arith, n)) (c .else-more-eq0 .either) in
-    rw (p .1, p .2) (higher-fault (c .args .bytes .now) (c .args .at) (c .if-at-bytes .left) (c .args .more) _ some (c .if-byte-lt128 .left) (c .in-Break-higher .ensures tt))
+    rw (p .1, p .2) (higher-fault (c .args .bytes .now) (c .args .at) (c .if-at-bytes .left) (c .args .more) _ some (c .if-byte-lt128 .left, omega (arith, c .typed .bytes (c .args .at))) (c .in-Break-higher .ensures tt))
 
 pub mul-result : need.mul-result
 mul-result t c = omega (arith, bound-most (c .args .more - 1) (omega (arith, c .pre)), c .in-Continue-higher .ensures tt .1)

@@ -18,7 +18,7 @@ returns-then-byte-lt128 c =
 pub returns-in-Break-higher : need.returns-in-Break-higher
 returns-in-Break-higher c =
     let p = err-from-errBy (c .from-residual .result) (c .from-residual .ensures .1) in
-    let k = number-fault (c .args .bytes .now) (c .args .at) (c .if-at-bytes .left) (c .in-Break-higher .field-0 .0) (c .if-byte-lt128 .left) (c .in-Break-higher .ensures tt) in
+    let k = number-fault (c .args .bytes .now) (c .args .at) (c .if-at-bytes .left) (c .in-Break-higher .field-0 .0) (c .if-byte-lt128 .left, omega (arith, c .typed .bytes (c .args .at))) (c .in-Break-higher .ensures tt) in
     rw (p .1, p .2) (record { reads = k; accepts = number-read (c .args .bytes .now) (c .args .at) (Err _) k })
 
 pub returns : need.returns

@@ -4,7 +4,7 @@ use Prim.Native.Nat.{_-_}
 use native.Mathlib.Omega.{arith}
 use lib.ListN.{take, length}
 use Rattle.forms.specs.Law.{lawfulTexts, lawfulNodes}
-use Rattle.forms.specs.Tables.{SpansWithin, spannedAll}
+use Rattle.forms.specs.Tables.{spannedAll}
 use Rattle.forms.proofs.Texts.{within-front}
 use Rattle.forms.proofs.Judging.{no-nodes, many-nodes, many-texts, bad-texts, good-texts}
 use Rattle.forms.proofs.packed.judge.is_lawful.Needs as need

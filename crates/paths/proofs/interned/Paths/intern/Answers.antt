@@ -1,24 +1,17 @@
-use mathlib.Core.Logic.{inl, inr, ⊎-elim}
-use mathlib.Core.Path.{_≡_, ap}
+use Prim.Native.Nat.{_<_}
 use native.Mathlib.Omega.{arith}
-use Prim.Native.Nat.{ℕ, _<_, _≤_}
-use lib.ListN.{length}
-use Rattle.std.specs.declared.result.Result.the-variants.{Ok}
+use Rattle.tables.proofs.Insertion.{inserted-kept, inserted-below}
 use Rattle.tables.proofs.Rows.{length-held-le}
 use Rattle.paths.specs.Kept.{markedPaths}
 use Rattle.paths.proofs.interned.Paths.intern.Needs as need
 
 pub cast-result : need.cast-result
 cast-result c =
-    let parts = c .args .self .now .parts in
-    let least = length-held-le parts in
-    elim (c .in-Continue-index .ensures tt) [
-      inl found ↦ let same : c .in-Continue-index .index ≡ found .0 = let e = found .2 in cc in omega (arith, found .1)
-    | inr added ↦ omega (arith, added .1)
-    ]
+    let few : c .in-Continue-index .index < 512 = inserted-below 512 (c .in-Continue-index .ensures tt) (length-held-le (c .args .self .now .parts)) (λ added. added .1) in
+    omega arith
 
 pub returns : need.returns
-returns c = ⊎-elim (λ found. ap markedPaths (found .3)) (λ added. added .0) (c .in-Continue-index .ensures tt)
+returns c = inserted-kept markedPaths (c .in-Continue-index .ensures tt) (λ added. added .0)
 
 pub returns-in-Break-index : need.returns-in-Break-index
-returns-in-Break-index c = ⊎-elim (λ found. ap markedPaths (found .3)) (λ added. added .0) (c .in-Break-index .ensures tt)
+returns-in-Break-index c = inserted-kept markedPaths (c .in-Break-index .ensures tt) (λ added. added .0)
