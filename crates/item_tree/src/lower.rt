@@ -1,5 +1,5 @@
 // A tree that takes items.
-use lower::tree_tables::TreeTables;
+use tree_tables::tree::TreeTables;
 
 pub mod calls;
 pub mod walk;

@@ -3,14 +3,14 @@ ghost use mathlib.Core.Path.{_≡_};
 ghost use Rattle.std.specs.Results.{Cases};
 ghost use Rattle.std.specs.declared.option.Option.the-variants.{Some, None};
 ghost use Rattle.syntax.specs.declared.refusal.Refusal.the-variants.{NotFound as NothingThere};
-ghost use Rattle.lower.specs.Contents.{heldOf};
-ghost use Rattle.lower.specs.Reading.{indexOf, attrsOf};
+ghost use Rattle.tree_tables.specs.Contents.{heldOf};
+ghost use Rattle.tree_tables.specs.Reading.{indexOf, attrsOf};
 use crate::lower::Ctx;
 use items::attrs::AttrsOrCfg;
 use items::ids::ModItemId;
 use items::rows::IndexedItem;
-use lower::tree_tables::TreeTables;
 use syntax::refusal::Refusal;
+use tree_tables::tree::TreeTables;
 
 #[derive(Drop)]
 pub struct ItemTree {

@@ -1,2 +1,0 @@
-pub mod Contents
-pub mod Reading

@@ -1,7 +1,6 @@
 // Collecting the attributes of a node.
 ghost use mathlib.Core.Path.{_≡_};
-ghost use Rattle.lower.specs.Contents.{markedOf};
-use crate::tree_tables::TreeTables;
+ghost use Rattle.tree_tables.specs.Contents.{markedOf};
 use items::attrs::Attr;
 use items::attrs::AttrInput;
 use items::attrs::AttrsOrCfg;
@@ -17,6 +16,7 @@ use syntax::source::SyntaxSource;
 use syntax::walk::NodeRef;
 use syntax::walk::child_of_kind;
 use syntax::walk::sibling_at;
+use tree_tables::tree::TreeTables;
 
 // A text's number, unless it is 0.
 fn text_of(node: Node) -> Option<u32> {
@@ -57,66 +57,64 @@ enum Collected {
     Disabled(CfgExpr),
 }
 
-impl TreeTables {
-    // The attributes of a node; none where the list is enabled and empty.
-    pub fn lower_attrs<S: SyntaxSource>(
-        &mut self,
-        source: &S,
-        owner: NodeRef,
-    ) -> Result<Option<AttrsOrCfg>, Refusal>
-        ensures { λ _. ⌜ markedOf (now (self .exit)) ≡ markedOf (now (self .entry)) ⌝ }
-    {
-        let first = self.attrs.len();
-        let mut at = owner.first_child();
-        while let Some(child) = sibling_at(source, at, owner.node.end) {
-            if child.node.kind != SyntaxKind::Attr.number() {
-                break;
-            }
-            if let Collected::Disabled(cfg) = self.lower_attr(source, child)? {
-                let attrs = self.attrs_from(first);
-                return Ok(Some(AttrsOrCfg::CfgDisabled { cfg, attrs }));
-            }
-            at = child.node.end;
+// The attributes of a node; none where the list is enabled and empty.
+pub fn lower_attrs<S: SyntaxSource>(
+    tables: &mut TreeTables,
+    source: &S,
+    owner: NodeRef,
+) -> Result<Option<AttrsOrCfg>, Refusal>
+    ensures { λ _. ⌜ markedOf (now (tables .exit)) ≡ markedOf (now (tables .entry)) ⌝ }
+{
+    let first = tables.attr_count();
+    let mut at = owner.first_child();
+    while let Some(child) = sibling_at(source, at, owner.node.end) {
+        if child.node.kind != SyntaxKind::Attr.number() {
+            break;
         }
-        let attrs = AttrsOrCfg::Enabled {
-            attrs: self.attrs_from(first),
-        };
-        if attrs.is_empty() {
-            Ok(None)
-        } else {
-            Ok(Some(attrs))
+        if let Collected::Disabled(cfg) = lower_attr(tables, source, child)? {
+            let attrs = attrs_from(tables, first);
+            return Ok(Some(AttrsOrCfg::CfgDisabled { cfg, attrs }));
+        }
+        at = child.node.end;
+    }
+    let attrs = AttrsOrCfg::Enabled {
+        attrs: attrs_from(tables, first),
+    };
+    if attrs.is_empty() {
+        Ok(None)
+    } else {
+        Ok(Some(attrs))
+    }
+}
+
+fn lower_attr<S: SyntaxSource>(
+    tables: &mut TreeTables,
+    source: &S,
+    attr: NodeRef,
+) -> Result<Collected, Refusal>
+    ensures { λ _. ⌜ markedOf (now (tables .exit)) ≡ markedOf (now (tables .entry)) ⌝ }
+{
+    match attr.node.mark {
+        3 => Ok(Collected::GoOn),
+        4 => Ok(Collected::Disabled(CfgExpr {
+            text: text_of(attr.node),
+        })),
+        _ => {
+            let path = tables.intern(&path_of(source, attr))?;
+            let input = input_of(attr.node);
+            let ctxt = SyntaxContext::ROOT;
+            tables.push_attr(Attr { path, input, ctxt })?;
+            Ok(Collected::GoOn)
         }
     }
+}
 
-    fn lower_attr<S: SyntaxSource>(
-        &mut self,
-        source: &S,
-        attr: NodeRef,
-    ) -> Result<Collected, Refusal>
-        ensures { λ _. ⌜ markedOf (now (self .exit)) ≡ markedOf (now (self .entry)) ⌝ }
-    {
-        match attr.node.mark {
-            3 => Ok(Collected::GoOn),
-            4 => Ok(Collected::Disabled(CfgExpr {
-                text: text_of(attr.node),
-            })),
-            _ => {
-                let path = self.intern(&path_of(source, attr))?;
-                let input = input_of(attr.node);
-                let ctxt = SyntaxContext::ROOT;
-                self.push_attr(Attr { path, input, ctxt })?;
-                Ok(Collected::GoOn)
-            }
-        }
-    }
-
-    // The attributes from an index on.
-    fn attrs_from(&self, first: usize) -> AttrsOwned {
-        let len = self.attrs.len();
-        let first = first.min(len);
-        AttrsOwned {
-            first: first as u32,
-            count: (len - first) as u32,
-        }
+// The attributes from an index on.
+fn attrs_from(tables: &TreeTables, first: usize) -> AttrsOwned {
+    let len = tables.attr_count();
+    let first = first.min(len);
+    AttrsOwned {
+        first: first as u32,
+        count: (len - first) as u32,
     }
 }

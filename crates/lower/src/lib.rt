@@ -1,10 +1,6 @@
-// Lowering one node at a time: the tables of a tree, and how each kind of item is recorded in them.
-pub mod alloc;
+// Lowering one node: how each kind of item is recorded in the tables of a tree.
 pub mod attrs;
-pub mod back;
 pub mod big;
-pub mod read;
 pub mod small;
-pub mod tree_tables;
 pub mod use_tree;
 pub mod visibility;

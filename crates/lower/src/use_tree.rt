@@ -1,7 +1,6 @@
 // Lowering a use tree: its lowered nodes go to the table one after another, a group before its members.
 ghost use mathlib.Core.Path.{_≡_};
-ghost use Rattle.lower.specs.Contents.{markedOf};
-use crate::tree_tables::TreeTables;
+ghost use Rattle.tree_tables.specs.Contents.{markedOf};
 use items::use_tree::ImportAlias;
 use items::use_tree::UseTreeKind;
 use paths::mod_path::ModPath;
@@ -13,6 +12,7 @@ use syntax::source::SyntaxSource;
 use syntax::walk::NodeRef;
 use syntax::walk::child_of_kind;
 use syntax::walk::sibling_at;
+use tree_tables::tree::TreeTables;
 
 // The alias that a Rename child gives; without a text it is `_`.
 pub fn alias_of<S: SyntaxSource>(source: &S, node: NodeRef) -> Option<ImportAlias> {
@@ -66,101 +66,99 @@ fn path_of<S: SyntaxSource>(source: &S, tree: NodeRef) -> UsePath {
     }
 }
 
-impl TreeTables {
-    // The record of a use node, with no members yet, unless the node is passed over.
-    fn lower_use_kind<S: SyntaxSource>(
-        &mut self,
-        source: &S,
-        tree: NodeRef,
-    ) -> Result<Option<UseTreeKind>, Refusal>
-        ensures { λ _. ⌜ markedOf (now (self .exit)) ≡ markedOf (now (self .entry)) ⌝ }
-    {
-        let Some(mark) = UseMark::of_mark(tree.node.mark) else {
-            return Ok(None);
-        };
-        let path = path_of(source, tree);
-        let alias = alias_of(source, tree);
-        match (mark, alias) {
-            (UseMark::Single, alias) => self.lower_single(&path, alias),
-            // Globs can't be renamed
-            (UseMark::Glob, Some(_)) => Ok(None),
-            (UseMark::Glob, None) => self.lower_glob(&path),
-            (UseMark::Group, _) => self.lower_group(&path),
+// The record of a use node, with no members yet, unless the node is passed over.
+fn lower_use_kind<S: SyntaxSource>(
+    tables: &mut TreeTables,
+    source: &S,
+    tree: NodeRef,
+) -> Result<Option<UseTreeKind>, Refusal>
+    ensures { λ _. ⌜ markedOf (now (tables .exit)) ≡ markedOf (now (tables .entry)) ⌝ }
+{
+    let Some(mark) = UseMark::of_mark(tree.node.mark) else {
+        return Ok(None);
+    };
+    let path = path_of(source, tree);
+    let alias = alias_of(source, tree);
+    match (mark, alias) {
+        (UseMark::Single, alias) => lower_single(tables, &path, alias),
+        // Globs can't be renamed
+        (UseMark::Glob, Some(_)) => Ok(None),
+        (UseMark::Glob, None) => lower_glob(tables, &path),
+        (UseMark::Group, _) => lower_group(tables, &path),
+    }
+}
+
+fn lower_single(
+    tables: &mut TreeTables,
+    path: &UsePath,
+    alias: Option<ImportAlias>,
+) -> Result<Option<UseTreeKind>, Refusal>
+    ensures { λ _. ⌜ markedOf (now (tables .exit)) ≡ markedOf (now (tables .entry)) ⌝ }
+{
+    let UsePath::Read(path) = path else {
+        return Ok(None);
+    };
+    let path = tables.intern(path)?;
+    Ok(Some(UseTreeKind::Single { path, alias }))
+}
+
+fn lower_glob(tables: &mut TreeTables, path: &UsePath) -> Result<Option<UseTreeKind>, Refusal>
+    ensures { λ _. ⌜ markedOf (now (tables .exit)) ≡ markedOf (now (tables .entry)) ⌝ }
+{
+    match path {
+        UsePath::Unreadable => Ok(None),
+        UsePath::Absent => Ok(Some(UseTreeKind::Glob { path: None })),
+        UsePath::Read(path) => {
+            let path = tables.intern(path)?;
+            Ok(Some(UseTreeKind::Glob { path: Some(path) }))
         }
     }
+}
 
-    fn lower_single(
-        &mut self,
-        path: &UsePath,
-        alias: Option<ImportAlias>,
-    ) -> Result<Option<UseTreeKind>, Refusal>
-        ensures { λ _. ⌜ markedOf (now (self .exit)) ≡ markedOf (now (self .entry)) ⌝ }
-    {
-        let UsePath::Read(path) = path else {
-            return Ok(None);
-        };
-        let path = self.intern(path)?;
-        Ok(Some(UseTreeKind::Single { path, alias }))
-    }
-
-    fn lower_glob(&mut self, path: &UsePath) -> Result<Option<UseTreeKind>, Refusal>
-        ensures { λ _. ⌜ markedOf (now (self .exit)) ≡ markedOf (now (self .entry)) ⌝ }
-    {
-        match path {
-            UsePath::Unreadable => Ok(None),
-            UsePath::Absent => Ok(Some(UseTreeKind::Glob { path: None })),
-            UsePath::Read(path) => {
-                let path = self.intern(path)?;
-                Ok(Some(UseTreeKind::Glob { path: Some(path) }))
-            }
-        }
-    }
-
-    fn lower_group(&mut self, path: &UsePath) -> Result<Option<UseTreeKind>, Refusal>
-        ensures { λ _. ⌜ markedOf (now (self .exit)) ≡ markedOf (now (self .entry)) ⌝ }
-    {
-        match path {
-            UsePath::Unreadable => Ok(None),
-            UsePath::Absent => Ok(Some(UseTreeKind::Prefixed {
-                prefix: None,
+fn lower_group(tables: &mut TreeTables, path: &UsePath) -> Result<Option<UseTreeKind>, Refusal>
+    ensures { λ _. ⌜ markedOf (now (tables .exit)) ≡ markedOf (now (tables .entry)) ⌝ }
+{
+    match path {
+        UsePath::Unreadable => Ok(None),
+        UsePath::Absent => Ok(Some(UseTreeKind::Prefixed {
+            prefix: None,
+            end: 0,
+        })),
+        UsePath::Read(path) => {
+            let prefix = tables.intern(path)?;
+            Ok(Some(UseTreeKind::Prefixed {
+                prefix: Some(prefix),
                 end: 0,
-            })),
-            UsePath::Read(path) => {
-                let prefix = self.intern(path)?;
-                Ok(Some(UseTreeKind::Prefixed {
-                    prefix: Some(prefix),
-                    end: 0,
-                }))
-            }
+            }))
         }
     }
+}
 
-    // Lowers a use node and then its members, unless it is passed over; `depth` levels may follow.
-    pub fn lower_use_tree<S: SyntaxSource>(
-        &mut self,
-        source: &S,
-        tree: NodeRef,
-        depth: u32,
-    ) -> Result<(), Refusal>
-        ensures { λ _. ⌜ markedOf (now (self .exit)) ≡ markedOf (now (self .entry)) ⌝ }
-    {
-        let Some(kind) = self.lower_use_kind(source, tree)? else {
-            return Ok(());
-        };
-        let place = self.push_use(kind)?;
-        let UseTreeKind::Prefixed { prefix, .. } = kind else {
-            return Ok(());
-        };
-        let mut at = tree.first_child();
-        while let Some(child) = sibling_at(source, at, tree.node.end) {
-            if child.node.kind == SyntaxKind::UseTree.number() && depth > 0 {
-                self.lower_use_tree(source, child, depth - 1)?;
-            }
-            at = child.node.end;
+// Lowers a use node and then its members, unless it is passed over; `depth` levels may follow.
+pub fn lower_use_tree<S: SyntaxSource>(
+    tables: &mut TreeTables,
+    source: &S,
+    tree: NodeRef,
+    depth: u32,
+) -> Result<(), Refusal>
+    ensures { λ _. ⌜ markedOf (now (tables .exit)) ≡ markedOf (now (tables .entry)) ⌝ }
+{
+    let Some(kind) = lower_use_kind(tables, source, tree)? else {
+        return Ok(());
+    };
+    let place = tables.push_use(kind)?;
+    let UseTreeKind::Prefixed { prefix, .. } = kind else {
+        return Ok(());
+    };
+    let mut at = tree.first_child();
+    while let Some(child) = sibling_at(source, at, tree.node.end) {
+        if child.node.kind == SyntaxKind::UseTree.number() && depth > 0 {
+            lower_use_tree(tables, source, child, depth - 1)?;
         }
-        let end = self.uses.len() as u32;
-        let kind = UseTreeKind::Prefixed { prefix, end };
-        self.replace_use(place, kind);
-        Ok(())
+        at = child.node.end;
     }
+    let end = tables.use_count() as u32;
+    let kind = UseTreeKind::Prefixed { prefix, end };
+    tables.replace_use(place, kind);
+    Ok(())
 }

@@ -18,10 +18,10 @@ use items::records::Use;
 use items::rows::BigModItem;
 use items::rows::ModItem;
 use items::rows::SmallModItem;
-use lower::tree_tables::TreeTables;
 use paths::name::Name;
 use syntax::refusal::Refusal;
 use syntax::source::SyntaxSource;
+use tree_tables::tree::TreeTables;
 
 // An item whose text is its visibility, a word, its name and an ending.
 #[derive(Clone, Copy)]

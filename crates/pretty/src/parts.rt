@@ -11,12 +11,12 @@ use items::ids::RawVisibilityId;
 use items::use_tree::ImportAlias;
 use items::use_tree::UseTreeKind;
 use items::visibility::RawVisibility;
-use lower::tree_tables::TreeTables;
 use paths::interned::PathId;
 use paths::mod_path::PathKind;
 use paths::name::Name;
 use syntax::refusal::Refusal;
 use syntax::source::SyntaxSource;
+use tree_tables::tree::TreeTables;
 
 impl Out<'_> {
     fn print_text<S: SyntaxSource>(

@@ -6,10 +6,10 @@ ghost use Rattle.std.specs.Results.{Cases};
 use crate::indent::Indent;
 use crate::out::Out;
 use item_tree::tree::ItemTree;
-use lower::tree_tables::TreeTables;
 use syntax::refusal::Needed;
 use syntax::refusal::Refusal;
 use syntax::source::SyntaxSource;
+use tree_tables::tree::TreeTables;
 
 // Items stand at most this deep.
 const MAX_DEPTH: u32 = 40;

@@ -4,17 +4,18 @@ ghost use mathlib.Core.Path.{_≡_};
 ghost use lib.ListN.{length};
 ghost use Rattle.std.specs.Results.{Cases};
 ghost use Rattle.syntax.specs.declared.refusal.Refusal.the-variants.{NotFirst as TooLate};
-ghost use Rattle.lower.specs.Contents.{empty, heldOf, markedOf};
+ghost use Rattle.tree_tables.specs.Contents.{empty, heldOf, markedOf};
 use crate::lower::Ctx;
 use crate::lower::walk::lower_items;
 use items::attrs::AttrsOrCfg;
 use items::ids::ModItemId;
-use lower::tree_tables::TreeTables;
+use lower::attrs::lower_attrs;
 use syntax::kind::is_item;
 use syntax::refusal::Refusal;
 use syntax::source::SyntaxSource;
 use syntax::walk::NodeRef;
 use syntax::walk::sibling_at;
+use tree_tables::tree::TreeTables;
 
 impl Ctx {
     // A new tree, which holds nothing.
@@ -105,7 +106,7 @@ fn lower_file<S: SyntaxSource>(
         return Ok(None);
     };
     let file = NodeRef { number: 0, node };
-    let top = tree.lower_attrs(source, file)?;
+    let top = lower_attrs(tree, source, file)?;
     lower_items(tree, source, file.first_child(), node.end)?;
     Ok(top)
 }

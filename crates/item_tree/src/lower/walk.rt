@@ -1,6 +1,6 @@
 // The loop that lowers items and those inside them, with a stack of the nodes that are open.
 ghost use mathlib.Core.Path.{_≡_};
-ghost use Rattle.lower.specs.Contents.{markedOf};
+ghost use Rattle.tree_tables.specs.Contents.{markedOf};
 use items::ids::FileAstId;
 use items::ids::RawVisibilityId;
 use items::records::ExternBlock;
@@ -10,9 +10,23 @@ use items::rows::BigModItem;
 use items::rows::BigRow;
 use items::rows::SmallModItem;
 use items::rows::SmallRow;
+use lower::attrs::lower_attrs;
+use lower::big::lower_extern_crate;
+use lower::big::lower_outline_module;
+use lower::big::lower_struct;
+use lower::big::lower_use;
+use lower::small::lower_const;
+use lower::small::lower_enum;
+use lower::small::lower_function;
 use lower::small::lower_impl;
+use lower::small::lower_macro_call;
+use lower::small::lower_macro_def;
 use lower::small::lower_macro_rules;
-use lower::tree_tables::TreeTables;
+use lower::small::lower_static;
+use lower::small::lower_trait;
+use lower::small::lower_type_alias;
+use lower::small::lower_union;
+use lower::visibility::lower_visibility;
 use paths::name::Name;
 use syntax::kind::SyntaxKind;
 use syntax::node::Node;
@@ -20,6 +34,7 @@ use syntax::refusal::Refusal;
 use syntax::source::SyntaxSource;
 use syntax::walk::NodeRef;
 use syntax::walk::sibling_at;
+use tree_tables::tree::TreeTables;
 
 // What is open: an item whose children are lowered before it gets its id.
 #[derive(Clone, Copy)]
@@ -138,17 +153,17 @@ fn lower_small_item<S: SyntaxSource>(
     ensures { λ _. ⌜ markedOf (now (tree .exit)) ≡ markedOf (now (tree .entry)) ⌝ }
 {
     match kind {
-        SyntaxKind::Union => tree.lower_union(source, item),
-        SyntaxKind::Enum => tree.lower_enum(source, item),
-        SyntaxKind::Fn => tree.lower_function(source, item),
-        SyntaxKind::TypeAlias => tree.lower_type_alias(source, item),
-        SyntaxKind::Static => tree.lower_static(source, item),
-        SyntaxKind::Const => tree.lower_const(source, item),
-        SyntaxKind::Trait => tree.lower_trait(source, item),
+        SyntaxKind::Union => lower_union(tree, source, item),
+        SyntaxKind::Enum => lower_enum(tree, source, item),
+        SyntaxKind::Fn => lower_function(tree, source, item),
+        SyntaxKind::TypeAlias => lower_type_alias(tree, source, item),
+        SyntaxKind::Static => lower_static(tree, source, item),
+        SyntaxKind::Const => lower_const(tree, source, item),
+        SyntaxKind::Trait => lower_trait(tree, source, item),
         SyntaxKind::Impl => Ok(Some(lower_impl(item))),
-        SyntaxKind::MacroCall => tree.lower_macro_call(source, item),
+        SyntaxKind::MacroCall => lower_macro_call(tree, source, item),
         SyntaxKind::MacroRules => Ok(lower_macro_rules(item)),
-        SyntaxKind::MacroDef => tree.lower_macro_def(source, item),
+        SyntaxKind::MacroDef => lower_macro_def(tree, source, item),
         _ => Ok(None),
     }
 }
@@ -162,10 +177,10 @@ fn lower_big_item<S: SyntaxSource>(
     ensures { λ _. ⌜ markedOf (now (tree .exit)) ≡ markedOf (now (tree .entry)) ⌝ }
 {
     match kind {
-        SyntaxKind::Struct => tree.lower_struct(source, item),
-        SyntaxKind::Use => tree.lower_use(source, item),
-        SyntaxKind::ExternCrate => tree.lower_extern_crate(source, item),
-        SyntaxKind::Module => tree.lower_outline_module(source, item),
+        SyntaxKind::Struct => lower_struct(tree, source, item),
+        SyntaxKind::Use => lower_use(tree, source, item),
+        SyntaxKind::ExternCrate => lower_extern_crate(tree, source, item),
+        SyntaxKind::Module => lower_outline_module(tree, source, item),
         _ => Ok(None),
     }
 }
@@ -181,7 +196,7 @@ fn open_module<S: SyntaxSource>(
     let Some(name) = Name::of_text(module.node.text) else {
         return Ok(None);
     };
-    let visibility = tree.lower_visibility(source, module)?;
+    let visibility = lower_visibility(tree, source, module)?;
     Ok(Some(Container::Module { name, visibility }))
 }
 
@@ -219,7 +234,7 @@ fn add_small<S: SyntaxSource>(
 ) -> Result<(), Refusal>
     ensures { λ _. ⌜ markedOf (now (tree .exit)) ≡ markedOf (now (tree .entry)) ⌝ }
 {
-    let attrs = tree.lower_attrs(source, node)?;
+    let attrs = lower_attrs(tree, source, node)?;
     let id = FileAstId { node: node.number };
     tree.alloc_small(SmallRow { id, item, attrs })
 }
@@ -232,7 +247,7 @@ fn add_big<S: SyntaxSource>(
 ) -> Result<(), Refusal>
     ensures { λ _. ⌜ markedOf (now (tree .exit)) ≡ markedOf (now (tree .entry)) ⌝ }
 {
-    let attrs = tree.lower_attrs(source, node)?;
+    let attrs = lower_attrs(tree, source, node)?;
     let id = FileAstId { node: node.number };
     tree.alloc_big(BigRow { id, item, attrs })
 }

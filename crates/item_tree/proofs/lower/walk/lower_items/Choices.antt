@@ -1,6 +1,6 @@
 use mathlib.Core.Path.{_≡_}
 use Prim.Native.Nat.{_+_, _-_, _*_, _≤_}
-use Rattle.lower.specs.Contents.{markedOf}
+use Rattle.tree_tables.specs.Contents.{markedOf}
 use Rattle.item_tree.proofs.lower.walk.lower_items.Given as given
 
 abbrev pub Inv-loop-item : given.InvT-loop-item

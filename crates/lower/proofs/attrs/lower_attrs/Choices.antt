@@ -1,0 +1,10 @@
+use mathlib.Core.Path.{_≡_}
+use Prim.Native.Nat.{_-_}
+use Rattle.tree_tables.specs.Contents.{markedOf}
+use Rattle.lower.proofs.attrs.lower_attrs.Given as given
+
+abbrev pub Inv-loop-child : given.InvT-loop-child
+Inv-loop-child g l = markedOf (l .tables) ≡ markedOf (l .entry .tables)
+
+abbrev pub μ-loop-child : given.MeasureT-loop-child
+μ-loop-child g l = l .owner .node .end - l .at

@@ -1,7 +1,0 @@
-use borrow.Author.Needs.{needs}
-use Rattle.lower.specs.Contents.{markedOf}
-use Rattle.lower.proofs.tree_tables.TreeTables.intern.Needs as need
-
-pub returns : need.returns
-unfolding markedOf
-returns c = search needs
