@@ -3,9 +3,10 @@ ghost use mathlib.Core.Path.{_≡_};
 ghost use Prim.Native.Nat.{_<_, _≤_};
 ghost use lib.ListN.{length};
 ghost use Rattle.std.specs.Results.{Cases};
-use crate::indent::Indent;
-use crate::out::Out;
+use crate::items::print_mod_item;
 use item_tree::tree::ItemTree;
+use page::indent::Indent;
+use page::out::Out;
 use syntax::refusal::Needed;
 use syntax::refusal::Refusal;
 use syntax::source::SyntaxSource;
@@ -28,7 +29,7 @@ fn print_into<S: SyntaxSource>(
         out.blank();
     }
     for id in tree.top_level_items() {
-        out.print_mod_item(tables, source, &mut indent, *id, MAX_DEPTH)?;
+        print_mod_item(&mut out, tables, source, &mut indent, *id, MAX_DEPTH)?;
     }
     Ok(out.finish())
 }

@@ -1,4 +1,4 @@
-use Rattle.pretty.proofs.out.Out.+number.Given as given
+use Rattle.page.proofs.out.Out.+number.Given as given
 
 abbrev pub μ-number : given.MeasureT-number
 μ-number l = l .number

@@ -34,7 +34,7 @@ impl Out<'_> {
         Ok(())
     }
 
-    pub(crate) fn print_name<S: SyntaxSource>(
+    pub fn print_name<S: SyntaxSource>(
         &mut self,
         source: &S,
         indent: &mut Indent,
@@ -80,7 +80,7 @@ impl Out<'_> {
         }
     }
 
-    pub(crate) fn print_path<S: SyntaxSource>(
+    pub fn print_path<S: SyntaxSource>(
         &mut self,
         tree: &TreeTables,
         source: &S,
@@ -119,7 +119,7 @@ impl Out<'_> {
     }
 
     // ` as alias`, where there is one.
-    pub(crate) fn print_rename<S: SyntaxSource>(
+    pub fn print_rename<S: SyntaxSource>(
         &mut self,
         source: &S,
         indent: &mut Indent,
@@ -173,7 +173,7 @@ impl Out<'_> {
     }
 
     // Attributes one to a line; `opening` is `#[`, or `#![` at the top level.
-    pub(crate) fn print_attrs<S: SyntaxSource>(
+    pub fn print_attrs<S: SyntaxSource>(
         &mut self,
         tree: &TreeTables,
         source: &S,
@@ -204,7 +204,7 @@ impl Out<'_> {
         }
     }
 
-    pub(crate) fn print_visibility<S: SyntaxSource>(
+    pub fn print_visibility<S: SyntaxSource>(
         &mut self,
         tree: &TreeTables,
         source: &S,
@@ -220,7 +220,7 @@ impl Out<'_> {
                 self.say(indent, b") ");
             }
             RawVisibility::Public => self.say(indent, b"pub "),
-            RawVisibility::PubCrate => self.say(indent, b"pub(crate) "),
+            RawVisibility::PubCrate => self.say(indent, b"pub "),
             RawVisibility::PubSelf(_) => self.say(indent, b"pub(self) "),
         }
         Ok(())
@@ -244,7 +244,7 @@ impl Out<'_> {
     }
 
     // The use node at `at`, with its members `depth` levels down; answers where the next one stands.
-    pub(crate) fn print_use_tree<S: SyntaxSource>(
+    pub fn print_use_tree<S: SyntaxSource>(
         &mut self,
         tree: &TreeTables,
         source: &S,
@@ -286,7 +286,7 @@ impl Out<'_> {
     }
 
     // The line above each item.
-    pub(crate) fn print_ast_id(&mut self, indent: &mut Indent, id: FileAstId)
+    pub fn print_ast_id(&mut self, indent: &mut Indent, id: FileAstId)
         ensures { λ _. ⌜ now (indent .exit) .level ≡ now (indent .entry) .level ⌝ }
     {
         self.say(indent, b"// AstId: ");

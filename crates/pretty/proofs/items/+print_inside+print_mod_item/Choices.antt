@@ -1,7 +1,7 @@
 use mathlib.Core.Path.{_≡_}
 use Prim.Native.Nat.{_+_, _*_}
 use denote.Ref.{name}
-use Rattle.pretty.proofs.out.Out.+print_inside+print_mod_item.Given as given
+use Rattle.pretty.proofs.items.+print_inside+print_mod_item.Given as given
 
 abbrev pub μ-print-inside : given.MeasureT-print-inside
 μ-print-inside g l = 2 * l .depth

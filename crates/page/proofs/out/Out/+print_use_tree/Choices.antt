@@ -1,6 +1,6 @@
 use mathlib.Core.Path.{_≡_}
 use Prim.Native.Nat.{_-_}
-use Rattle.pretty.proofs.out.Out.+print_use_tree.Given as given
+use Rattle.page.proofs.out.Out.+print_use_tree.Given as given
 
 abbrev pub μ-print-use-tree : given.MeasureT-print-use-tree
 μ-print-use-tree g l = l .depth

@@ -3,13 +3,13 @@ ghost use mathlib.Core.Path.{_≡_};
 
 #[derive(Clone, Copy)]
 pub struct Indent {
-    pub(crate) level: usize,
+    pub level: usize,
     // whether the next byte begins a line
-    pub(crate) fresh: bool,
+    pub fresh: bool,
 }
 
 impl Indent {
-    pub(crate) fn new() -> Indent {
+    pub fn new() -> Indent {
         Indent {
             level: 0,
             fresh: true,
@@ -19,8 +19,8 @@ impl Indent {
 
 // Puts the level back when it goes.
 pub struct Indented<'a> {
-    pub(crate) indent: &'a mut Indent,
-    pub(crate) before: usize,
+    pub indent: &'a mut Indent,
+    pub before: usize,
 }
 
 impl Drop for Indented<'_> {

@@ -12,7 +12,7 @@ pub struct Out<'a> {
 }
 
 impl<'a> Out<'a> {
-    pub(crate) fn new(buf: &'a mut [u8]) -> Out<'a> {
+    pub fn new(buf: &'a mut [u8]) -> Out<'a> {
         Out {
             buf,
             len: 0,
@@ -66,7 +66,7 @@ impl Out<'_> {
         }
     }
 
-    pub(crate) fn say(&mut self, indent: &mut Indent, bytes: &[u8])
+    pub fn say(&mut self, indent: &mut Indent, bytes: &[u8])
         ensures { λ _. ⌜ now (indent .exit) .level ≡ now (indent .entry) .level ⌝ }
     {
         for byte in bytes {
@@ -75,7 +75,7 @@ impl Out<'_> {
     }
 
     // A number in decimal.
-    pub(crate) fn number(&mut self, indent: &mut Indent, number: u32)
+    pub fn number(&mut self, indent: &mut Indent, number: u32)
         ensures { λ _. ⌜ now (indent .exit) .level ≡ now (indent .entry) .level ⌝ }
     {
         if number >= 10 {
@@ -85,20 +85,20 @@ impl Out<'_> {
     }
 
     // Ensures that a blank line comes before the next text.
-    pub(crate) fn blank(&mut self) {
+    pub fn blank(&mut self) {
         if self.len > 0 && self.newlines < 2 {
             self.newlines = 2;
         }
     }
 
     // Ends the text with one newline, in place of those that it ends with; answers its length.
-    pub(crate) fn finish(&mut self) -> usize {
+    pub fn finish(&mut self) -> usize {
         self.put(b'\n');
         self.len
     }
 
     // Takes the last newlines away.
-    pub(crate) fn trim(&mut self) {
+    pub fn trim(&mut self) {
         self.newlines = 0;
     }
 }
