@@ -41,16 +41,9 @@ impl Ctx {
         };
         self.tree.set_mark();
         let place = self.tree.next_id_place();
-        match lower_items(&mut self.tree, source, node, item.node.end) {
-            Ok(()) => {
-                self.begun = true;
-                Ok(self.tree.id_at(place))
-            }
-            Err(refusal) => {
-                self.tree.go_back();
-                Err(refusal)
-            }
-        }
+        let lowered = lower_items(&mut self.tree, source, node, item.node.end);
+        self.end_call(lowered)?;
+        Ok(self.tree.id_at(place))
     }
 
     // Root lowering: the attributes of the file, then all its items. Answers how many stand at the top level.
@@ -62,11 +55,20 @@ impl Ctx {
             return Err(Refusal::NotFirst);
         }
         self.tree.set_mark();
-        match lower_file(&mut self.tree, source) {
-            Ok(top) => {
-                self.tree.set_top(top);
+        let lowered = lower_file(&mut self.tree, source);
+        let top = self.end_call(lowered)?;
+        self.tree.set_top(top);
+        Ok(self.tree.next_id_place() as u32)
+    }
+
+    // What a call lowered stays, or is gone where it was refused.
+    fn end_call<T>(&mut self, lowered: Result<T, Refusal>) -> Result<T, Refusal>
+        ensures { λ r. ⌜ Cases r (λ _. now (self .exit) .begun ≡ true) (λ _. (heldOf (now (self .exit) .tree) ≡ markedOf (now (self .entry) .tree)) × (now (self .exit) .begun ≡ now (self .entry) .begun)) ⌝ }
+    {
+        match lowered {
+            Ok(answer) => {
                 self.begun = true;
-                Ok(self.tree.next_id_place() as u32)
+                Ok(answer)
             }
             Err(refusal) => {
                 self.tree.go_back();
