@@ -1,4 +1,9 @@
 // The record of each kind of item.
+ghost use mathlib.Core.Path.{_≡_};
+ghost use Prim.Native.Nat.{_<_};
+ghost use Rattle.std.specs.Options.{Cases};
+ghost use Rattle.items.specs.Marks.{expandMark, shapeMark};
+ghost use Rattle.items.specs.Records.{hasCtor};
 use crate::ids::RawVisibilityId;
 use crate::ids::SyntaxContext;
 use crate::use_tree::ImportAlias;
@@ -134,7 +139,9 @@ pub enum ExpandTo {
 }
 
 impl ExpandTo {
-    pub fn of_mark(mark: u32) -> Option<ExpandTo> {
+    pub fn of_mark(mark: u32) -> Option<ExpandTo>
+        ensures { λ r. ⌜ Cases r (4 < mark) (λ x. expandMark x ≡ mark) ⌝ }
+    {
         match mark {
             0 => Some(ExpandTo::Statements),
             1 => Some(ExpandTo::Items),
@@ -173,7 +180,9 @@ pub enum FieldsShape {
 }
 
 impl FieldsShape {
-    pub fn of_mark(mark: u32) -> Option<FieldsShape> {
+    pub fn of_mark(mark: u32) -> Option<FieldsShape>
+        ensures { λ r. ⌜ Cases r (2 < mark) (λ x. shapeMark x ≡ mark) ⌝ }
+    {
         match mark {
             0 => Some(FieldsShape::Record),
             1 => Some(FieldsShape::Unit),
@@ -182,7 +191,9 @@ impl FieldsShape {
         }
     }
 
-    pub fn has_value_ns_ctor(self) -> bool {
+    pub fn has_value_ns_ctor(self) -> bool
+        ensures { λ r. ⌜ r ≡ hasCtor self ⌝ }
+    {
         match self {
             FieldsShape::Record => false,
             FieldsShape::Tuple | FieldsShape::Unit => true,

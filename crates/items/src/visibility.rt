@@ -5,6 +5,7 @@ ghost use Prim.Native.Nat.{_<_};
 ghost use lib.ListN.{length};
 ghost use Rattle.std.specs.Results.{Cases};
 ghost use Rattle.tables.specs.Held.{held, marked};
+ghost use Rattle.items.specs.Records.{isExplicit};
 use crate::ids::RawVisibilityId;
 use paths::interned::PathId;
 use paths::interned::PathIdDebug;
@@ -23,7 +24,9 @@ pub enum VisibilityExplicitness {
 }
 
 impl VisibilityExplicitness {
-    pub fn is_explicit(self) -> bool {
+    pub fn is_explicit(self) -> bool
+        ensures { λ r. ⌜ r ≡ isExplicit self ⌝ }
+    {
         match self {
             VisibilityExplicitness::Explicit => true,
             VisibilityExplicitness::Implicit => false,

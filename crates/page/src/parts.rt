@@ -220,7 +220,7 @@ impl Out<'_> {
                 self.say(indent, b") ");
             }
             RawVisibility::Public => self.say(indent, b"pub "),
-            RawVisibility::PubCrate => self.say(indent, b"pub "),
+            RawVisibility::PubCrate => self.say(indent, b"pub(crate) "),
             RawVisibility::PubSelf(_) => self.say(indent, b"pub(self) "),
         }
         Ok(())

@@ -14,6 +14,7 @@ use items::attrs::AttrsOrCfg;
 use items::ids::ModItemId;
 use items::ids::RawVisibilityId;
 use items::records::ItemIds;
+use items::records::VisibilityIds;
 use items::rows::IndexedItem;
 use items::rows::ModItem;
 use items::use_tree::UseTree;
@@ -110,6 +111,21 @@ impl TreeTables {
             return Err(Refusal::NotFound);
         };
         Ok(tree)
+    }
+
+    // A member of a constructor's list.
+    pub fn ctor_visibility(
+        &self,
+        list: VisibilityIds,
+        index: u32,
+    ) -> Result<RawVisibilityId, Refusal> {
+        if index >= list.count {
+            return Err(Refusal::NotFound);
+        }
+        let Some(id) = self.ctors.get(list.first as usize + index as usize) else {
+            return Err(Refusal::NotFound);
+        };
+        Ok(id)
     }
 
     pub fn raw_visibility(&self, id: RawVisibilityId) -> Result<RawVisibility, Refusal> {
