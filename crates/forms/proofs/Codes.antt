@@ -12,12 +12,13 @@ use Rattle.syntax.specs.declared.refusal.Refusal.{Refusal}
 use Rattle.syntax.specs.declared.refusal.Refusal.the-variants.{Form}
 use Rattle.forms.specs.declared.number.NumberFault.{NumberFault}
 use Rattle.forms.specs.declared.number.NumberFault.the-variants.{CutShort, TooWide, NotShortest}
-use Rattle.forms.specs.declared.packed.tables.Span.{Span}
+use Rattle.forms.specs.declared.tables.Span.{Span}
 use Rattle.forms.specs.Faults.{refusalOf}
 use Rattle.forms.specs.Numbers.{encoded, NumberAt, NumberFaulty}
 use Rattle.forms.specs.Form.{Field, number, content, inBytes, nodeFields, textFields}
 use Rattle.forms.specs.Reading.{Any, OfLength, Stands, Cut, Stray, Fails}
 use Rattle.forms.specs.Tables.{spanned}
+use Rattle.forms.specs.Words.{nodeWords}
 use Rattle.forms.proofs.Groups.{no-number, encoded-one, number-stays, number-completed}
 use Rattle.forms.proofs.Sequences.{fails-first}
 use Rattle.forms.proofs.Firmness.{Single, Firm, no-fields, firm-pair}
@@ -56,10 +57,7 @@ number-firm a b [] after v bad r s fault p q u w other faulty there e = no-numbe
 number-firm a b (x ∷ before) after v bad r s fault p q u w other faulty there e = no-fields (number v) before after (ap (drop 1) there)
 
 -- a node: six numbers
-abbrev pub six : Node → List ℕ
-six x = x .kind ∷ x .end ∷ x .text ∷ x .mark ∷ x .from ∷ x .to ∷ []
-
-node-of : (ns : List ℕ) → length ns ≡ 6 → (x : Node) × (six x ≡ ns)
+node-of : (ns : List ℕ) → length ns ≡ 6 → (x : Node) × (nodeWords x ≡ ns)
 node-of [] p = absurd (omega (arith, p))
 node-of (a ∷ []) p = absurd (omega (arith, p))
 node-of (a ∷ b ∷ []) p = absurd (omega (arith, p))
@@ -69,14 +67,14 @@ node-of (a ∷ b ∷ c ∷ d ∷ e ∷ []) p = absurd (omega (arith, p))
 node-of (a ∷ b ∷ c ∷ d ∷ e ∷ f ∷ []) p = (record { kind = a; end = b; text = c; mark = d; from = e; to = f }, refl)
 node-of (a ∷ b ∷ c ∷ d ∷ e ∷ f ∷ g ∷ ns) p = absurd (omega (arith, p))
 
-same-six : (x y : Node) → six x ≡ six y → x ≡ y
-same-six x y e = λ i. record { kind = getD (e i) 0 0; end = getD (e i) 1 0; text = getD (e i) 2 0; mark = getD (e i) 3 0; from = getD (e i) 4 0; to = getD (e i) 5 0 }
+pub same-words : (x y : Node) → nodeWords x ≡ nodeWords y → x ≡ y
+same-words x y e = λ i. record { kind = getD (e i) 0 0; end = getD (e i) 1 0; text = getD (e i) 2 0; mark = getD (e i) 3 0; from = getD (e i) 4 0; to = getD (e i) 5 0 }
 
 pub node-single : Single Any nodeFields
-node-single x y r s p q u v e = let k = rows-single numberFields number-single 6 (six x) (six y) r s refl refl u v e in (same-six x y (k .0), k .1)
+node-single x y r s p q u v e = let k = rows-single numberFields number-single 6 (nodeWords x) (nodeWords y) r s refl refl u v e in (same-words x y (k .0), k .1)
 
 pub node-firm : Firm Any nodeFields
-node-firm x y before after v bad r s fault p q u w other faulty there e = rows-firm numberFields number-single number-firm 6 (six x) (six y) before after v bad r s fault refl refl u w other faulty there e
+node-firm x y before after v bad r s fault p q u w other faulty there e = rows-firm numberFields number-single number-firm 6 (nodeWords x) (nodeWords y) before after v bad r s fault refl refl u w other faulty there e
 
 pub node-fails : (bs : List ℕ) (e : Refusal) → Fails (OfLength 6) (joined numberFields) bs e → Fails Any nodeFields bs e
 node-fails bs e h =
@@ -91,7 +89,7 @@ pub good-number : (n : ℕ) (bytes : List ℕ) (at v next : ℕ) (e : Refusal) �
 good-number n bytes at v next e h k = row-next numberFields n (drop at bytes) (drop next bytes) v e (number-stands bytes at v next h) k
 
 -- a text: its length, and its bytes
-same-front : (a b r s : List ℕ) → length a ≡ length b → a ++ r ≡ b ++ s → (a ≡ b) × (r ≡ s)
+pub same-front : (a b r s : List ℕ) → length a ≡ length b → a ++ r ≡ b ++ s → (a ≡ b) × (r ≡ s)
 same-front [] [] r s n e = (refl, e)
 same-front [] (y ∷ b) r s n e = absurd (omega (arith, n))
 same-front (x ∷ a) [] r s n e = absurd (omega (arith, n))

@@ -8,8 +8,8 @@ use lib.Dec.{leb}
 use lib.ListN.{take}
 use Rattle.std.proofs.shelf.Tests.{le-leb, lt-leb, leb-true, and-left, and-right, and-parts}
 use Rattle.syntax.specs.declared.node.Node.{Node}
-use Rattle.forms.specs.declared.packed.tables.Span.{Span}
-use Rattle.forms.specs.Law.{lawfulTexts, lawfulNodes}
+use Rattle.forms.specs.declared.tables.Span.{Span}
+use Rattle.syntax.specs.Law.{lawfulTexts, lawfulNodes}
 use Rattle.forms.specs.Tables.{spannedAll}
 use Rattle.forms.specs.Judged.{lawfulTables}
 

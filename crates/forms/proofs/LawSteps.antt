@@ -11,10 +11,10 @@ use Rattle.std.proofs.shelf.Lists.{take-rest}
 use Rattle.std.proofs.shelf.Tests.{eq-eqb, ne-eqb, and-left, and-right}
 use Rattle.syntax.specs.declared.node.Node.{Node}
 use Rattle.syntax.specs.declared.kind.SyntaxKind.the-variants.{File}
-use Rattle.forms.specs.Table.{is, countFits}
-use Rattle.forms.specs.Trees.{Siblings, none, node, size, siblings, between}
-use Rattle.forms.specs.Law.{sound, isChild, placeAfter, areChildren, isFile, lawfulNodes}
-use Rattle.forms.proofs.Grouping.{children-any, later-any, between-any, size-any, between-first, size-children, between-none, size-siblings}
+use Rattle.syntax.specs.Table.{is, countFits}
+use Rattle.syntax.specs.Trees.{Siblings, none, node, size, siblings, between}
+use Rattle.syntax.specs.Law.{sound, isChild, placeAfter, areChildren, isFile, lawfulNodes}
+use Rattle.syntax.proofs.Grouping.{children-any, later-any, between-any, size-any, between-first, size-children, between-none, size-siblings}
 
 -- what stands past the end of a list of nodes
 abbrev pub no-node : Node

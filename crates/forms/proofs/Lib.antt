@@ -1,8 +1,6 @@
 pub mod Groups
 pub mod NumberSteps
-pub mod Fronts
 pub mod Spans
-pub mod Grouping
 pub mod LawSteps
 pub mod Texts
 pub mod Judging
@@ -14,4 +12,9 @@ pub mod Codes
 pub mod Whole
 pub mod TableSteps
 pub mod Exactness
+pub mod PackedExact
+pub mod WordRows
+pub mod WordExact
+pub mod WordSteps
 pub mod Opened
+pub mod BothForms

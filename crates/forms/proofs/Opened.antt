@@ -1,4 +1,4 @@
--- Tables that are read and judged, against what the bytes mean.
+-- Tables that are read and judged, against what the form means.
 use mathlib.Core.Path.{_≡_, sym, ap, subst, _∙_}
 use mathlib.Core.Logic.{⊎-elim}
 use mathlib.Core.Bool.{true, false, _&&_}
@@ -11,17 +11,16 @@ use Rattle.std.proofs.shelf.Tests.{cases-lt, lt-leb, and-left, and-right}
 use Rattle.syntax.specs.Meaning.{Meaning}
 use Rattle.syntax.specs.declared.node.Node.{Node}
 use Rattle.syntax.specs.declared.refusal.Refusal.the-variants.{Law}
-use Rattle.forms.specs.declared.packed.tables.Span.{Span}
-use Rattle.forms.specs.Form.{FormOf}
+use Rattle.forms.specs.declared.tables.Span.{Span}
 use Rattle.forms.specs.Judged.{lawfulTables}
-use Rattle.forms.specs.Law.{lawfulTexts, lawfulNodes, lawful}
-use Rattle.forms.specs.Opening.{Opens, Refuses}
+use Rattle.syntax.specs.Law.{lawfulTexts, lawfulNodes, lawful}
+use Rattle.forms.specs.Opening.{CauseOf, Opens, Refuses}
 use Rattle.forms.specs.Reading.{FormRead}
 use Rattle.forms.specs.Tables.{SpansWithin, tableMeaning}
-use Rattle.forms.proofs.Exactness.{refuses-law, opens-form}
+use Rattle.forms.proofs.Exactness.{Exact, refuses-law, opens-form}
 use Rattle.forms.proofs.Judging.{limits, many-nodes, many-texts}
 
-module _ (bytes : List ℕ) (nodes : List Node) (n : ℕ) (spans : List Span) (t : ℕ) (node-room : length nodes ≡ 4096) (text-room : length spans ≡ 1024) (read : FormRead bytes nodes n spans t) where
+module _ {FormOf : Meaning → Type 0} {form number : Type 0} (exact : Exact FormOf form number) (bytes : List ℕ) (nodes : List Node) (n : ℕ) (spans : List Span) (t : ℕ) (node-room : length nodes ≡ 4096) (text-room : length spans ≡ 1024) (read : FormRead FormOf bytes nodes n spans t) where
   abbrev m : Meaning
   m = read .meaning
 
@@ -45,18 +44,21 @@ module _ (bytes : List ℕ) (nodes : List Node) (n : ℕ) (spans : List Span) (t
       (cases-lt 1024 t))
       (cases-lt 4096 n)
 
-  pub unlawful : lawfulTables bytes nodes n spans t ≡ false → Refuses bytes Law
-  unlawful h = refuses-law bytes m (read .form) (lawful-is ∙ h)
+  pub unlawful : lawfulTables bytes nodes n spans t ≡ false → Refuses FormOf (CauseOf FormOf form number) Law
+  unlawful h = refuses-law exact m (read .form) (lawful-is ∙ h)
 
   module _ (h : lawfulTables bytes nodes n spans t ≡ true) where
+    pub law-read : lawful m ≡ true
+    law-read = lawful-is ∙ h
+
     same : m ≡ tableMeaning nodes n spans t bytes
     same = let l = limits bytes nodes n spans t h in held (l .0) (l .1)
 
     pub ruled : lawful (tableMeaning nodes n spans t bytes) ≡ true
-    ruled = ap lawful (sym same) ∙ lawful-is ∙ h
+    ruled = ap lawful (sym same) ∙ law-read
 
-    pub opened : Opens bytes (tableMeaning nodes n spans t bytes)
-    opened = opens-form bytes (tableMeaning nodes n spans t bytes) (subst (FormOf bytes) same (read .form)) ruled
+    pub opened : Opens FormOf (CauseOf FormOf form number) (tableMeaning nodes n spans t bytes)
+    opened = opens-form exact (tableMeaning nodes n spans t bytes) (subst FormOf same (read .form)) ruled
 
     pub within : SpansWithin spans t (length bytes)
     within = read .within (omega (arith, limits bytes nodes n spans t h .1, text-room))

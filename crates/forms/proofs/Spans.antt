@@ -7,7 +7,7 @@ use lib.ListN.{length, set, getD, length-set}
 use lib.Seq.{getD-set-same, getD-set-other}
 use borrow.Author.Count.{below-more}
 use Rattle.forms.specs.Tables.{SpansWithin, noSpan}
-use Rattle.forms.specs.declared.packed.tables.Span.{Span}
+use Rattle.forms.specs.declared.tables.Span.{Span}
 
 pub within-more : (spans : List Span) (i size : ℕ) (span : Span) → (i ≤ length spans → SpansWithin spans i size) → span .start + span .len ≤ size → i + 1 ≤ length (set spans i span) → SpansWithin (set spans i span) (i + 1) size
 within-more spans i size span before fits room =

@@ -8,7 +8,7 @@ use Rattle.std.specs.Joined.{joined}
 use Rattle.std.proofs.shelf.Lists.{length-set, take-more-set, map-push}
 use Rattle.syntax.specs.declared.node.Node.{Node}
 use Rattle.syntax.specs.declared.refusal.Refusal.{Refusal}
-use Rattle.forms.specs.declared.packed.tables.Span.{Span}
+use Rattle.forms.specs.declared.tables.Span.{Span}
 use Rattle.forms.specs.Form.{nodeFields, textFields}
 use Rattle.forms.specs.Reading.{Any, OfLength, Stands, Fails, NodesRead, TextsRead}
 use Rattle.forms.specs.Tables.{spanned, spannedAll}

@@ -11,8 +11,8 @@ use Rattle.std.specs.shelf.Text.{sameBytes}
 use Rattle.std.proofs.shelf.Equals.{sameBytes-decides}
 use Rattle.std.proofs.shelf.Lists.{at-drop-more, at-drop-all, getD-take}
 use Rattle.std.proofs.shelf.Tests.{cases-bool, or-left, and-left, and-right, le-leb, lt-leb}
-use Rattle.forms.specs.declared.packed.tables.Span.{Span}
-use Rattle.forms.specs.Law.{among, isText, lawfulTexts}
+use Rattle.forms.specs.declared.tables.Span.{Span}
+use Rattle.syntax.specs.Law.{among, isText, lawfulTexts}
 use Rattle.forms.specs.Tables.{SpansWithin, noSpan, spanned, spannedAll}
 
 pub within-front : (spans : List Span) (t size : ℕ) → t ≤ length spans → SpansWithin spans t size → SpansWithin (take t spans) (length (take t spans)) size

@@ -10,10 +10,10 @@ use Rattle.syntax.specs.Meaning.{Meaning}
 use Rattle.syntax.specs.declared.node.Node.{Node}
 use Rattle.syntax.specs.declared.refusal.Refusal.{Refusal}
 use Rattle.forms.specs.declared.number.NumberFault.{NumberFault}
-use Rattle.forms.specs.declared.packed.tables.Span.{Span}
+use Rattle.forms.specs.declared.tables.Span.{Span}
 use Rattle.forms.specs.Faults.{refusalOf}
 use Rattle.forms.specs.Numbers.{encoded, NumberAt, NumberFaulty}
-use Rattle.forms.specs.Form.{Field, number, inBytes, Narrow, nodeFields, textFields, formFields}
+use Rattle.forms.specs.Form.{Field, number, inBytes, Narrow, nodeFields, textFields, formFields, FormOf}
 use Rattle.forms.specs.Reading.{Any, OfLength, Fails, NodesRead, TextsRead, FormRead, Long}
 use Rattle.forms.proofs.Fields.{bytes-append, narrow-append, narrow-left, narrow-right}
 use Rattle.forms.proofs.Sequences.{fails-first, fails-after}
@@ -137,7 +137,7 @@ module _ (bytes : List ℕ) where
           pub too-long : d < length bytes → Long bytes
           too-long less = record { meaning = meaning; rest = drop d bytes; some = omega (arith, length-drop d bytes); narrow = form-narrow; same = form-stands }
 
-          pub whole-form : length bytes ≤ d → FormRead bytes ns n spans t
+          pub whole-form : length bytes ≤ d → FormRead (FormOf bytes) bytes ns n spans t
           unfolding meaning
           whole-form all = record {
             meaning = meaning;

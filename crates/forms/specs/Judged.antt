@@ -5,8 +5,8 @@ use Prim.Native.Nat.{ℕ}
 use lib.Dec.{leb}
 use lib.ListN.{take}
 use Rattle.syntax.specs.declared.node.Node.{Node}
-use Rattle.forms.specs.declared.packed.tables.Span.{Span}
-use Rattle.forms.specs.Law.{lawfulTexts, lawfulNodes}
+use Rattle.forms.specs.declared.tables.Span.{Span}
+use Rattle.syntax.specs.Law.{lawfulTexts, lawfulNodes}
 use Rattle.forms.specs.Tables.{spannedAll}
 
 -- so many nodes and texts are in the tables, if these have room

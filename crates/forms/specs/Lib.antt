@@ -1,11 +1,14 @@
 pub mod Numbers
 pub mod Faults
-pub mod Table
-pub mod Trees
-pub mod Law
 pub mod Tables
 pub mod Judged
 pub mod Form
 pub mod Reading
 pub mod Opening
+pub mod PackedOpening
+pub mod Words
+pub mod WordOpening
+pub mod WordReading
 pub mod Meant
+pub mod WordMeant
+pub mod Agreement

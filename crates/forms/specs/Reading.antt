@@ -11,9 +11,9 @@ use Rattle.syntax.specs.declared.refusal.Refusal.{Refusal}
 use Rattle.syntax.specs.declared.refusal.Refusal.the-variants.{Form, Number}
 use Rattle.forms.specs.declared.number.NumberFault.{NumberFault}
 use Rattle.forms.specs.declared.number.NumberFault.the-variants.{TooWide, NotShortest}
-use Rattle.forms.specs.declared.packed.tables.Span.{Span}
+use Rattle.forms.specs.declared.tables.Span.{Span}
 use Rattle.forms.specs.Numbers.{NumberFaulty}
-use Rattle.forms.specs.Form.{Field, number, inBytes, Narrow, nodeFields, textFields, formFields, FormOf}
+use Rattle.forms.specs.Form.{Field, number, inBytes, Narrow, nodeFields, textFields, formFields}
 use Rattle.forms.specs.Tables.{SpansWithin, spannedAll}
 
 abbrev pub Any : {A : Type 0} → A → Type 0
@@ -70,10 +70,10 @@ pub record TextsRead (bytes : List ℕ) (at t : ℕ) (table : List Span) (next :
   pub held : t ≤ length table → spannedAll bytes (take t table) ≡ texts
   pub within : t ≤ length table → SpansWithin table t (length bytes)
 
--- the bytes are a packed form, whose nodes and texts are in the tables if these have room
-pub record FormRead (bytes : List ℕ) (nodes : List Node) (n : ℕ) (spans : List Span) (t : ℕ) : Type 0 where
+-- it is the form of something, whose nodes and texts are in the tables if these have room
+pub record FormRead (FormOf : Meaning → Type 0) (bytes : List ℕ) (nodes : List Node) (n : ℕ) (spans : List Span) (t : ℕ) : Type 0 where
   pub meaning : Meaning
-  pub form : FormOf bytes meaning
+  pub form : FormOf meaning
   pub node-count : length (meaning .nodes) ≡ n
   pub text-count : length (meaning .texts) ≡ t
   pub nodes-held : n ≤ length nodes → take n nodes ≡ meaning .nodes

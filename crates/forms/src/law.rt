@@ -2,8 +2,8 @@
 ghost use mathlib.Core.Path.{_≡_};
 ghost use Prim.Native.Nat.{_≤_};
 ghost use lib.ListN.{length};
-ghost use Rattle.forms.specs.Trees.{between};
-ghost use Rattle.forms.specs.Law.{sound, isChild, placeAfter, areChildren, lawfulNodes};
+ghost use Rattle.syntax.specs.Trees.{between};
+ghost use Rattle.syntax.specs.Law.{sound, isChild, placeAfter, areChildren, lawfulNodes};
 use syntax::node::Node;
 use table::FILE;
 use table::count_fits;

@@ -1,4 +1,8 @@
-// The packed form of a syntax source: how it is read, judged and opened.
+// The two forms of a syntax source: how they are read, judged and opened.
+pub mod agreement;
+mod judge;
 pub mod law;
 pub mod number;
 pub mod packed;
+pub mod tables;
+pub mod word;

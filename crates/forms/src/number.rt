@@ -30,6 +30,9 @@ pub impl From<NumberFault> for Refusal as RefusalFromNumberFault {
     }
 }
 
+// A fifth byte has the top four of 32 bits.
+const MAX_FIFTH: u8 = 15;
+
 // The groups above the lowest: one, after at most `more` others.
 fn read_higher(bytes: &[u8], at: usize, more: u8) -> Result<(u32, usize), NumberFault>
     requires { ⌜ more ≤ 3 ⌝ }
@@ -39,7 +42,7 @@ fn read_higher(bytes: &[u8], at: usize, more: u8) -> Result<(u32, usize), Number
         return Err(NumberFault::CutShort);
     }
     let byte = bytes[at];
-    if more == 0 && byte > 15 {
+    if more == 0 && byte > MAX_FIFTH {
         return Err(NumberFault::TooWide);
     }
     if byte == 0 {

@@ -3,15 +3,13 @@ ghost use mathlib.Core.Path.{_≡_};
 ghost use mathlib.Core.Bool.{true};
 ghost use Prim.Native.Nat.{_≤_};
 ghost use lib.ListN.{length};
-ghost use Rattle.forms.specs.Law.{lawful};
+ghost use Rattle.syntax.specs.Law.{lawful};
 ghost use Rattle.forms.specs.Tables.{SpansWithin, tableMeaning};
-use tables::Counts;
-use tables::Tables;
+use crate::tables::Counts;
+use crate::tables::Tables;
 
-mod judge;
 pub mod open;
 mod reader;
-pub mod tables;
 
 // Its texts are lent from the caller's bytes.
 #[derive(Drop)]

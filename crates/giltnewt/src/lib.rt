@@ -7,6 +7,8 @@ ghost use Rattle.std.specs.Results.{Cases};
 // reading syntax
 pub use forms::packed::PackedSource;
 pub use forms::packed::open::PackedSyntaxSource;
+pub use forms::word::WordSource;
+pub use forms::word::open::WordSyntaxSource;
 pub use syntax::node::Node;
 pub use syntax::source::SyntaxSource;
 

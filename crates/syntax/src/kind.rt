@@ -65,9 +65,9 @@ impl SyntaxKind {
         }
     }
 
-    // The kind that has this number.
+    // The kind that has this number, if one has.
     pub fn of(number: u32) -> Option<SyntaxKind>
-        ensures { λ r. ⌜ Cases r (Unit {0}) (λ k. numberOf k ≡ number) ⌝ }
+        ensures { λ r. ⌜ Cases r ((k : SyntaxKind) → numberOf k ≡ number → ⊥) (λ k. numberOf k ≡ number) ⌝ }
     {
         match number {
             0 => Some(SyntaxKind::File),

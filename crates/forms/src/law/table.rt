@@ -1,6 +1,6 @@
 // The table of kinds: which marks a kind has, and which children, in which order.
 ghost use mathlib.Core.Path.{_≡_};
-ghost use Rattle.forms.specs.Table.{markFits, isGroup, takesVis, takesItem, takesPath, takes, placeOf, single, countFits};
+ghost use Rattle.syntax.specs.Table.{markFits, isGroup, takesVis, takesItem, takesPath, takes, placeOf, single, countFits};
 
 // The kinds by number, for `match`: any other number is no kind.
 pub const FILE: u32 = 0;

@@ -3,30 +3,22 @@ ghost use mathlib.Core.Path.{_≡_};
 ghost use mathlib.Core.List.{[], _∷_};
 ghost use Rattle.std.specs.Results.{Cases};
 ghost use Rattle.forms.specs.Meant.{meaningOf};
-ghost use Rattle.forms.specs.Opening.{Opens, Refuses};
+ghost use Rattle.forms.specs.PackedOpening.{PackedOpens, PackedRefuses};
 use super::PackedSource;
-use super::judge::is_lawful;
 use super::reader::read_form;
-use super::tables::Counts;
-use super::tables::Span;
-use super::tables::Tables;
+use crate::judge::is_lawful;
+use crate::tables::Counts;
+use crate::tables::EMPTY_FILE;
+use crate::tables::NO_SPAN;
+use crate::tables::Tables;
 use syntax::node::Node;
 use syntax::refusal::Refusal;
 use syntax::source::SyntaxSource;
 
-const EMPTY_FILE: Node = Node {
-    kind: 0,
-    end: 1,
-    text: 0,
-    mark: 0,
-    from: 0,
-    to: 0,
-};
-
-const NO_SPAN: Span = Span { start: 0, len: 0 };
-
 pub impl<'a> SyntaxSource for PackedSource<'a> as PackedSyntaxSource {
     ghost meaning = { λ source. meaningOf source };
+
+    ghost law = { λ source. source .ruled };
 
     fn node(&self, number: u32) -> Option<Node> {
         if number < self.counts.nodes {
@@ -64,7 +56,7 @@ impl<'a> PackedSource<'a> {
 
     // Opens the packed form in this slot, or says why not and leaves the slot as it was.
     pub fn open(&mut self, bytes: &'a [u8]) -> Result<(), Refusal>
-        ensures answers { λ r. ⌜ Cases r (λ _. Opens (now (bytes .entry)) (meaningOf (now (self .exit)))) (λ e. Refuses (now (bytes .entry)) e) ⌝ }
+        ensures answers { λ r. ⌜ Cases r (λ _. PackedOpens (now (bytes .entry)) (meaningOf (now (self .exit)))) (λ e. PackedRefuses (now (bytes .entry)) e) ⌝ }
         ensures keeps { λ r. ⌜ Cases r (λ _. Unit {0}) (λ _. now (self .exit) ≡ now (self .entry)) ⌝ }
     {
         let mut nodes = [EMPTY_FILE; 4096];

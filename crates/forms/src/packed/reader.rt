@@ -1,27 +1,18 @@
 // Reading the packed form into tables, from the front.
-ghost use mathlib.Core.Path.{_≡_};
 ghost use Prim.Native.Nat.{_+_, _≤_};
-ghost use lib.ListN.{length, drop, set};
+ghost use lib.ListN.{length, drop};
 ghost use Rattle.std.specs.Joined.{joined};
 ghost use Rattle.std.specs.Results.{Cases};
-ghost use Rattle.forms.specs.Form.{nodeFields, textFields};
+ghost use Rattle.forms.specs.Form.{nodeFields, textFields, FormOf};
 ghost use Rattle.forms.specs.Reading.{Any, OfLength, Stands, Fails, NodesRead, TextsRead, FormRead, Unread};
 ghost use Rattle.forms.specs.Tables.{spanned};
-use super::tables::Counts;
-use super::tables::Span;
 use crate::number::RefusalFromNumberFault;
 use crate::number::read_number;
+use crate::tables::Counts;
+use crate::tables::Span;
+use crate::tables::put;
 use syntax::node::Node;
 use syntax::refusal::Refusal;
-
-// Stores where there is room.
-fn put<T: Copy>(table: &mut [T], index: usize, entry: T)
-    ensures { λ _. ⌜ now (table .exit) ≡ set (now (table .entry)) index entry ⌝ }
-{
-    if index < table.len() {
-        table[index] = entry;
-    }
-}
 
 fn read_node(bytes: &[u8], at: usize) -> Result<(Node, usize), Refusal>
     ensures { λ r. ⌜ Cases r (λ read. Stands Any nodeFields (drop at (now (bytes .entry))) (read .0) (drop (read .1) (now (bytes .entry)))) (λ e. Fails Any nodeFields (drop at (now (bytes .entry))) e) ⌝ }
@@ -84,7 +75,7 @@ fn read_texts(bytes: &[u8], start: usize, count: u32, table: &mut [Span]) -> Res
 // The whole form. Counts and lengths are trusted here and judged later, so that a form that is
 // cut short is refused as such however absurd its counts are.
 pub fn read_form(bytes: &[u8], nodes: &mut [Node], texts: &mut [Span]) -> Result<Counts, Refusal>
-    ensures { λ r. ⌜ Cases r (λ counts. FormRead (now (bytes .entry)) (now (nodes .exit)) (counts .nodes) (now (texts .exit)) (counts .texts)) (λ e. Unread (now (bytes .entry)) e) ⌝ }
+    ensures { λ r. ⌜ Cases r (λ counts. FormRead (FormOf (now (bytes .entry))) (now (bytes .entry)) (now (nodes .exit)) (counts .nodes) (now (texts .exit)) (counts .texts)) (λ e. Unread (now (bytes .entry)) e) ⌝ }
 {
     let (node_count, at) = read_number(bytes, 0)?;
     let (text_count, at) = read_number(bytes, at)?;

@@ -1,7 +1,7 @@
 use mathlib.Core.Path.{_≡_}
 use Prim.Native.Nat.{_-_, _≤_}
-use Rattle.forms.specs.Trees.{between}
-use Rattle.forms.specs.Law.{areChildren}
+use Rattle.syntax.specs.Trees.{between}
+use Rattle.syntax.specs.Law.{areChildren}
 use Rattle.forms.proofs.law.+are_children.Given as given
 
 abbrev pub μ-are-children : given.MeasureT-are-children

@@ -1,5 +1,5 @@
 use borrow.Author.Needs.{needs}
-use Rattle.forms.specs.Law.{isChild}
+use Rattle.syntax.specs.Law.{isChild}
 use Rattle.forms.proofs.law.is_child.Needs as need
 
 pub returns-then-takes-child : need.returns-then-takes-child

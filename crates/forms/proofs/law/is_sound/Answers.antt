@@ -1,5 +1,5 @@
 use borrow.Author.Needs.{needs}
-use Rattle.forms.specs.Law.{sound}
+use Rattle.syntax.specs.Law.{sound}
 use Rattle.forms.proofs.law.is_sound.Needs as need
 
 pub returns-then-node-texts : need.returns-then-node-texts

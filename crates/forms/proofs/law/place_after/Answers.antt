@@ -1,5 +1,5 @@
 use borrow.Author.Needs.{needs}
-use Rattle.forms.specs.Law.{placeAfter}
+use Rattle.syntax.specs.Law.{placeAfter}
 use Rattle.forms.proofs.law.place_after.Needs as need
 
 pub returns-then-is-single : need.returns-then-is-single

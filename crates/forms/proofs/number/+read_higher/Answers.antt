@@ -9,8 +9,8 @@ use Rattle.forms.proofs.number.+read_higher.Needs as need
 pub returns-then-at-bytes : need.returns-then-at-bytes
 returns-then-at-bytes t c = higher-cut (c .args .bytes .now) (c .args .at) (c .args .more) (c .if-at-bytes .taken)
 
-pub returns-then-byte-gt15 : need.returns-then-byte-gt15
-returns-then-byte-gt15 t c = higher-wide (c .args .bytes .now) (c .args .at) (c .if-at-bytes .left) (c .args .more) (c .if-more-eq0 .taken) (c .if-byte-gt15 .taken)
+pub returns-then-byte-gt-MAX-FIFTH : need.returns-then-byte-gt-MAX-FIFTH
+returns-then-byte-gt-MAX-FIFTH t c = higher-wide (c .args .bytes .now) (c .args .at) (c .if-at-bytes .left) (c .args .more) (c .if-more-eq0 .taken) (c .if-byte-gt-MAX-FIFTH .taken)
 
 pub returns-then-byte-eq0 : need.returns-then-byte-eq0
 returns-then-byte-eq0 t c = higher-long (c .args .bytes .now) (c .args .at) (c .if-at-bytes .left) (c .args .more) (c .if-byte-eq0 .taken)

@@ -1,6 +1,6 @@
 use mathlib.Core.Path.{refl}
 use native.Mathlib.Omega.{arith}
-use Rattle.forms.specs.Law.{sound, lawfulNodes, lawful}
+use Rattle.syntax.specs.Law.{sound, lawfulNodes, lawful}
 use Rattle.forms.proofs.packed.PackedSource.least.Needs as need
 
 pub ghost-result : need.ghost-result

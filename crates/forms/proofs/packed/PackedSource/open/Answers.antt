@@ -1,6 +1,6 @@
 use mathlib.Core.Path.{refl, sym}
 use Rattle.std.proofs.shelf.Results.{err-from-errBy}
-use Rattle.forms.proofs.Exactness.{refuses-unread}
+use Rattle.forms.proofs.PackedExact.{packed-exact, refuses-unread}
 use Rattle.forms.proofs.Judging.{limits}
 use Rattle.forms.proofs.Opened.{unlawful, ruled, opened, within}
 use Rattle.forms.proofs.packed.PackedSource.open.Needs as need
@@ -12,7 +12,7 @@ returns-in-Break-counts c =
 
 pub returns-then-not-is-lawful : need.returns-then-not-is-lawful
 returns-then-not-is-lawful c = record {
-  answers = unlawful (c .args .bytes .now) _ _ _ _ (c .read-form .kept .nodes) (c .read-form .kept .texts) (c .in-Continue-counts .ensures tt) (sym (c .if-not-is-lawful .ensures tt));
+  answers = unlawful (packed-exact (c .args .bytes .now)) (c .args .bytes .now) _ _ _ _ (c .read-form .kept .nodes) (c .read-form .kept .texts) (c .in-Continue-counts .ensures tt) (sym (c .if-not-is-lawful .ensures tt));
   keeps = refl;
 }
 
@@ -30,8 +30,8 @@ ghost-self c =
       (
         (node-room, text-room),
         (
-          within bytes nodes (counts .nodes) texts (counts .texts) node-room text-room read law,
-          (ruled bytes nodes (counts .nodes) texts (counts .texts) node-room text-room read law, tt),
+          within (packed-exact bytes) bytes nodes (counts .nodes) texts (counts .texts) node-room text-room read law,
+          (ruled (packed-exact bytes) bytes nodes (counts .nodes) texts (counts .texts) node-room text-room read law, tt),
         ),
       ),
     )
@@ -40,6 +40,6 @@ pub returns : need.returns
 returns c =
     let counts = c .in-Continue-counts .counts in
     record {
-      answers = opened (c .args .bytes .now) (c .read-form .last .nodes) (counts .nodes) (c .read-form .last .texts) (counts .texts) (c .read-form .kept .nodes) (c .read-form .kept .texts) (c .in-Continue-counts .ensures tt) (sym (c .if-not-is-lawful .ensures tt));
+      answers = opened (packed-exact (c .args .bytes .now)) (c .args .bytes .now) (c .read-form .last .nodes) (counts .nodes) (c .read-form .last .texts) (counts .texts) (c .read-form .kept .nodes) (c .read-form .kept .texts) (c .in-Continue-counts .ensures tt) (sym (c .if-not-is-lawful .ensures tt));
       keeps = tt;
     }

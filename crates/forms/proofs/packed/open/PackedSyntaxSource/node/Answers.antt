@@ -1,6 +1,6 @@
 use mathlib.Core.Path.{sym}
 use native.Mathlib.Omega.{arith}
-use Rattle.forms.proofs.Fronts.{front-at, front-past}
+use Rattle.syntax.proofs.Fronts.{front-at, front-past}
 use Rattle.forms.proofs.packed.open.PackedSyntaxSource.node.Needs as need
 
 pub returns-then-number-self : need.returns-then-number-self

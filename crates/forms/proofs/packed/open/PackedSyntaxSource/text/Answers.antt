@@ -4,8 +4,8 @@ use native.Mathlib.Omega.{arith}
 use lib.ListN.{take, drop, getD}
 use Rattle.std.proofs.shelf.Ways.{tells}
 use Rattle.forms.specs.Tables.{spanned, noSpan}
-use Rattle.forms.specs.declared.packed.tables.Span.{Span}
-use Rattle.forms.proofs.Fronts.{map-front-at, map-front-past}
+use Rattle.forms.specs.declared.tables.Span.{Span}
+use Rattle.syntax.proofs.Fronts.{map-front-at, map-front-past}
 use Rattle.forms.proofs.packed.open.PackedSyntaxSource.text.Needs as need
 use Rattle.forms.proofs.packed.open.PackedSyntaxSource.text.Needs.{then-number-eq0·by·then-number-eq0, then-number-eq0·by·else-number-eq0·then-number-self}
 

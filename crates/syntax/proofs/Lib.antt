@@ -1,0 +1,4 @@
+pub mod Fronts
+pub mod Grouping
+pub mod Listing
+pub mod Lawfulness
