@@ -20,6 +20,8 @@ const SECONDS: f64 = 0.02;
 struct Input {
     name: String,
     forms: Vec<Vec<u8>>,
+    /// The port's other figures have a part of one opening in them, which here would hide them.
+    only_opening: bool,
 }
 
 pub fn time(folders: &[&str]) -> bool {
@@ -36,11 +38,12 @@ fn inputs(folders: &[&str]) -> Vec<Input> {
     for edge in edges::all().0 {
         let wanted = ["the first example", "use a::b::{c::d, e::{f, g::*}, h as _}", "law: modules to level 40", "form: 4096 nodes", "form: 1024 texts"];
         if wanted.contains(&&*edge.name) || edge.name.starts_with("at the limit") {
-            inputs.push(Input { name: edge.name, forms: vec![edge.bytes] });
+            inputs.push(Input { name: edge.name, forms: vec![edge.bytes], only_opening: false });
         }
     }
+    inputs.push(Input { name: "1024 texts of 255 bytes that differ in the last two".to_owned(), forms: vec![long_texts()], only_opening: true });
     for profile in ["few items", "more items", "many items"] {
-        inputs.push(Input { name: format!("20 generated sources, {profile}"), forms: generated(profile, 20) });
+        inputs.push(Input { name: format!("20 generated sources, {profile}"), forms: generated(profile, 20), only_opening: false });
     }
     for folder in folders {
         let mut forms = Vec::new();
@@ -52,9 +55,20 @@ fn inputs(folders: &[&str]) -> Vec<Input> {
         }
         forms.retain(|form| is_accepted(form));
         let name = Path::new(folder).file_name().unwrap().to_string_lossy();
-        inputs.push(Input { name: format!("{} files of `{name}`", forms.len()), forms });
+        inputs.push(Input { name: format!("{} files of `{name}`", forms.len()), forms, only_opening: false });
     }
     inputs
+}
+
+/// A file, and 1,024 texts of 255 bytes that differ in their last two.
+fn long_texts() -> Vec<u8> {
+    let mut form = vec![1, 0x80, 0x08, 0, 1, 0, 0, 0, 0];
+    for i in 0..1024_u32 {
+        form.extend([0xff, 0x01]);
+        form.extend([b'a'; 253]);
+        form.extend([b'a' + (i / 32) as u8, b'a' + (i % 32) as u8]);
+    }
+    form
 }
 
 fn generated(profile: &str, count: usize) -> Vec<Vec<u8>> {
@@ -78,6 +92,12 @@ fn row(input: &Input) {
 
     let rust_open = best(|rounds| each(rounds, || forms.iter().for_each(|form| drop(black_box(law::open(form))))));
     let port_open = best(|rounds| forms.iter().for_each(|form| assert_eq!(port::open_often(form, rounds), rounds)));
+    let mut line = format!("| {} | {bytes} | {nodes} |", input.name);
+    compared(&mut line, rust_open, port_open);
+    if input.only_opening {
+        println!("{line} | | | | | |");
+        return;
+    }
     let rust_lower = best(|rounds| each(rounds, || dbs.iter().for_each(|db| drop(black_box(Original::lower_root(db))))));
     let port_lower = best(|rounds| forms.iter().for_each(|form| assert_eq!(port::lower_often(form, rounds), rounds)));
     let rust_print = best(|rounds| {
@@ -85,11 +105,13 @@ fn row(input: &Input) {
     });
     let port_print = best(|rounds| forms.iter().for_each(|form| assert_eq!(port::print_often(form, rounds, &mut text), rounds)));
 
-    let mut line = format!("| {} | {bytes} | {nodes} |", input.name);
-    for (rust, port) in [(rust_open, port_open), (rust_lower, port_lower), (rust_print, port_print)] {
-        line.push_str(&format!(" {} | {} | {:.2} |", shown(rust), shown(port), port / rust));
-    }
+    compared(&mut line, rust_lower, port_lower);
+    compared(&mut line, rust_print, port_print);
     println!("{line}");
+}
+
+fn compared(line: &mut String, rust: f64, port: f64) {
+    line.push_str(&format!(" {} | {} | {:.2} |", shown(rust), shown(port), port / rust));
 }
 
 fn each(rounds: u32, mut once: impl FnMut()) {
@@ -119,5 +141,5 @@ fn best(mut call: impl FnMut(u32)) -> f64 {
 }
 
 fn shown(seconds: f64) -> String {
-    format!("{:.2} µs", seconds * 1e6)
+    format!("{:.2}", seconds * 1e6)
 }
