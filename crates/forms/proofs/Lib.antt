@@ -17,4 +17,5 @@ pub mod WordRows
 pub mod WordExact
 pub mod WordSteps
 pub mod Opened
+pub mod Sizes
 pub mod BothForms

@@ -9,10 +9,8 @@ use lib.ListN.{length, drop, getD, replicate, length-append, length-drop}
 use Rattle.std.proofs.shelf.Lists.{length-replicate, drop-all}
 use Rattle.syntax.specs.Law.{lawful}
 use Rattle.syntax.specs.Meaning.{Meaning}
-use Rattle.syntax.specs.declared.node.Node.{Node}
 use Rattle.syntax.specs.declared.refusal.Refusal.{Refusal}
 use Rattle.syntax.specs.declared.refusal.Refusal.the-variants.{Form}
-use Rattle.forms.specs.declared.tables.Span.{Span}
 use Rattle.forms.specs.Tables.{SpansWithin, spanEnd, noSpan, spannedAll}
 use Rattle.forms.specs.Words.{inWords, WordFormOf, spanFrom, nodeCount, textCount, nodesEnd, wordsEnd, nodesIn, spansIn, wordMeaning}
 use Rattle.forms.specs.WordOpening.{WordsCut, WordsLong, Outside, BadWords, WordOpens, WordRefuses}

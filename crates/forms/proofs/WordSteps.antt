@@ -13,7 +13,7 @@ use Rattle.syntax.specs.Meaning.{at}
 use Rattle.syntax.specs.declared.node.Node.{Node}
 use Rattle.forms.specs.declared.tables.Span.{Span}
 use Rattle.forms.specs.Reading.{FormRead}
-use Rattle.forms.specs.Tables.{SpansWithin, spanEnd, noSpan, spanned, spannedAll}
+use Rattle.forms.specs.Tables.{spanEnd, noSpan, spanned, spannedAll}
 use Rattle.forms.specs.WordOpening.{WordsCut, WordsLong, Outside}
 use Rattle.forms.specs.WordReading.{Counted, NodesCopied, SpansCopied, SpanPast}
 use Rattle.forms.specs.Words.{WordFormOf, apart, nodeFrom, spanFrom, nodeCount, textCount, nodesEnd, wordsEnd, nodesIn, spansIn, wordMeaning}

@@ -70,7 +70,7 @@ fn are_texts(bytes: &[u8], texts: &[Span]) -> bool
     true
 }
 
-pub fn is_lawful(bytes: &[u8], nodes: &[Node], texts: &[Span], counts: Counts) -> bool
+pub(crate) fn is_lawful(bytes: &[u8], nodes: &[Node], texts: &[Span], counts: Counts) -> bool
     requires { ⌜ length (now nodes) ≡ 4096 ⌝ ∗ ⌜ length (now texts) ≡ 1024 ⌝ ∗ ⌜ (counts .texts ≤ length (now texts) → SpansWithin (now texts) (counts .texts) (length (now bytes))) ⌝ }
     ensures { λ r. ⌜ r ≡ lawfulTables (now (bytes .entry)) (now (nodes .entry)) (counts .nodes) (now (texts .entry)) (counts .texts) ⌝ }
 {

@@ -73,7 +73,7 @@ fn are_children(nodes: &[Node], texts: u32, parent: Node, first: u32, levels: u3
 }
 
 // Whether the nodes are those of a file, where there are so many texts.
-pub fn is_file(nodes: &[Node], texts: u32) -> bool
+pub(crate) fn is_file(nodes: &[Node], texts: u32) -> bool
     requires { ⌜ length (now nodes) ≤ 4096 ⌝ }
     ensures { λ r. ⌜ r ≡ lawfulNodes texts (now (nodes .entry)) ⌝ }
 {

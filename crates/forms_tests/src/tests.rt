@@ -39,6 +39,13 @@ mod tests {
         Ok(())
     }
 
+    fn check_answers(cases: &[(u32, u32)]) -> Result<(), Fail> {
+        for case in cases {
+            check_eq(case.0, case.1)?;
+        }
+        Ok(())
+    }
+
     #[test]
     fn numbers_are_read() -> Result<(), Fail> {
         check_eq(read_number(&[0], 0), Ok((0, 1)))?;
@@ -189,26 +196,34 @@ mod tests {
 
     #[test]
     fn counts_are_limited() -> Result<(), Fail> {
-        check_eq(answer_flat(4096), 0)?;
-        check_eq(answer_flat(4097), 3)?;
-        check_eq(answer_texts(1024), 0)?;
-        check_eq(answer_texts(1025), 3)?;
-        check_eq(answer_nested(40), 0)?;
-        check_eq(answer_nested(41), 3)?;
-        check_eq(answer_segments(0), 3)?;
-        check_eq(answer_segments(64), 0)?;
-        check_eq(answer_segments(65), 3)
+        check_answers(
+            &[
+                (answer_flat(4096), 0),
+                (answer_flat(4097), 3),
+                (answer_texts(1024), 0),
+                (answer_texts(1025), 3),
+                (answer_nested(40), 0),
+                (answer_nested(41), 3),
+                (answer_segments(0), 3),
+                (answer_segments(64), 0),
+                (answer_segments(65), 3),
+            ],
+        )
     }
 
     #[test]
     fn texts_are_judged() -> Result<(), Fail> {
-        check_eq(answer_two(b"a", b""), 3)?;
-        check_eq(answer_two(b"a", b"b"), 0)?;
-        check_eq(answer_two(b"a", b"a"), 3)?;
-        // one the front of the other
-        check_eq(answer_two(b"a", b"aa"), 0)?;
-        check_eq(answer_two(b"a", &[7; 255]), 0)?;
-        check_eq(answer_two(b"a", &[7; 256]), 3)
+        check_answers(
+            &[
+                (answer_two(b"a", b""), 3),
+                (answer_two(b"a", b"b"), 0),
+                (answer_two(b"a", b"a"), 3),
+                // one the front of the other
+                (answer_two(b"a", b"aa"), 0),
+                (answer_two(b"a", &[7; 255]), 0),
+                (answer_two(b"a", &[7; 256]), 3),
+            ],
+        )
     }
 
     #[test]
@@ -248,15 +263,18 @@ mod tests {
     fn items_are_judged() -> Result<(), Fail> {
         for (i, last) in LAST_MARKS.iter().enumerate() {
             let kind = 10 + i as u32;
-            check_eq(answer_rows(&[[0, 2, 0], [kind, 2, *last]]), 0)?;
-            check_eq(answer_rows(&[[0, 2, 0], [kind, 2, *last + 1]]), 3)?;
-            // an attribute, and what no item has
-            check_eq(answer_rows(&[[0, 3, 0], [kind, 3, 0], [36, 3, 0]]), 0)?;
-            check_eq(answer_rows(&[[0, 3, 0], [kind, 3, 0], [32, 3, 0]]), 3)?;
+            check_rows(
+                &[
+                    (&[[0, 2, 0], [kind, 2, *last]], 0),
+                    (&[[0, 2, 0], [kind, 2, *last + 1]], 3),
+                    // an attribute, and what no item has
+                    (&[[0, 3, 0], [kind, 3, 0], [36, 3, 0]], 0),
+                    (&[[0, 3, 0], [kind, 3, 0], [32, 3, 0]], 3),
+                ],
+            )?;
         }
         // kinds that are none
-        check_eq(answer_rows(&[[0, 2, 0], [9, 2, 0]]), 3)?;
-        check_eq(answer_rows(&[[0, 2, 0], [27, 2, 0]]), 3)
+        check_rows(&[(&[[0, 2, 0], [9, 2, 0]], 3), (&[[0, 2, 0], [27, 2, 0]], 3)])
     }
 
     // Each kind below items: a good mark, a wrong mark and a wrong child.
@@ -335,18 +353,22 @@ mod tests {
     }
 
     #[test]
-    fn refusal_leaves_what_was_open() -> Result<(), Fail> {
-        let mut packed = PackedSource::least();
-        check_eq(packed.open(&PACKED), Ok(()))?;
-        check_eq(packed.open(&[1, 0]), Err(Refusal::Form))?;
-        check(packed.node(3).is_some() && packed.node(4).is_none())?;
-        check(packed.text(0).is_none() && packed.text(3).is_none())?;
-        check_eq(packed.text(2).ok_or("no text")?, b"f")?;
-        let mut words = WordSource::least();
-        check_eq(words.open(&WORDS, b"mf"), Ok(()))?;
-        check_eq(words.open(&[1, 0], b""), Err(Refusal::Form))?;
-        check(words.node(3).is_some() && words.node(4).is_none())?;
-        check(words.text(0).is_none() && words.text(3).is_none())?;
-        check_eq(words.text(2).ok_or("no text")?, b"f")
+    fn refusal_leaves_the_packed_form() -> Result<(), Fail> {
+        let mut source = PackedSource::least();
+        check_eq(source.open(&PACKED), Ok(()))?;
+        check_eq(source.open(&[1, 0]), Err(Refusal::Form))?;
+        check(source.node(3).is_some() && source.node(4).is_none())?;
+        check(source.text(0).is_none() && source.text(3).is_none())?;
+        check_eq(source.text(2).ok_or("no text")?, b"f")
+    }
+
+    #[test]
+    fn refusal_leaves_the_word_form() -> Result<(), Fail> {
+        let mut source = WordSource::least();
+        check_eq(source.open(&WORDS, b"mf"), Ok(()))?;
+        check_eq(source.open(&[1, 0], b""), Err(Refusal::Form))?;
+        check(source.node(3).is_some() && source.node(4).is_none())?;
+        check(source.text(0).is_none() && source.text(3).is_none())?;
+        check_eq(source.text(2).ok_or("no text")?, b"f")
     }
 }

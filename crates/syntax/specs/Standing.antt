@@ -11,7 +11,7 @@ use Rattle.syntax.specs.Kinds.{numberOf}
 use Rattle.syntax.specs.Meaning.{Meaning, nodeAt}
 use Rattle.syntax.specs.Table.{takes}
 use Rattle.syntax.specs.Trees.{Siblings, none, node, height, listed, Fill, siblings, between}
-use Rattle.syntax.specs.Law.{sound, lawful}
+use Rattle.syntax.specs.Law.{sound, areChildren, lawful}
 
 -- siblings are sound and children that `parent` takes, and so are those below them
 abbrev pub Taken : ℕ → Node → Siblings → Type 0
@@ -29,6 +29,7 @@ pub record FileTree (m : Meaning) : Type 0 where
   pub fill : Fill 1 (root .end) children
   pub levels : height children ≤ 40
   pub taken : Taken (length (m .texts)) root children
+  pub kept : areChildren (length (m .texts)) root 0 0 40 1 children ≡ true
   pub listing : listed (node root children none) ≡ m .nodes
   pub only : (t : Siblings) (end : ℕ) → Fill 0 end t → listed t ≡ m .nodes → t ≡ node root children none
 
@@ -39,6 +40,10 @@ pub record Placed (m : Meaning) (i : ℕ) (x : Node) : Type 0 where
   pub sound-here : sound (length (m .texts)) x ≡ true
   pub fill : Fill (i + 1) (x .end) (between (m .nodes) (i + 1) (x .end))
   pub taken : Taken (length (m .texts)) x (between (m .nodes) (i + 1) (x .end))
+  -- with so many levels left, they are in order and as many as the table allows
+  pub levels : ℕ
+  pub few-levels : levels ≤ 40
+  pub kept : areChildren (length (m .texts)) x 0 0 levels (i + 1) (between (m .nodes) (i + 1) (x .end)) ≡ true
 
 -- texts have 1 to 255 bytes, and no two are equal
 pub record Distinct (texts : List (List ℕ)) : Type 0 where

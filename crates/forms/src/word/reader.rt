@@ -22,7 +22,7 @@ pub const NODE_WORDS: usize = 6;
 
 pub const SPAN_WORDS: usize = 2;
 
-pub fn node_from(words: &[u32], at: usize) -> Node
+pub(crate) fn node_from(words: &[u32], at: usize) -> Node
     requires { ⌜ at + 6 ≤ length (now words) ⌝ }
     ensures { λ r. ⌜ r ≡ nodeFrom (now (words .entry)) at ⌝ }
 {
@@ -36,7 +36,7 @@ pub fn node_from(words: &[u32], at: usize) -> Node
     }
 }
 
-pub fn span_from(words: &[u32], at: usize) -> Span
+pub(crate) fn span_from(words: &[u32], at: usize) -> Span
     requires { ⌜ at + 2 ≤ length (now words) ⌝ }
     ensures { λ r. ⌜ r ≡ spanFrom (now (words .entry)) at ⌝ }
 {
@@ -93,7 +93,7 @@ fn read_spans(
 }
 
 // The whole form.
-pub fn read_words(
+pub(crate) fn read_words(
     words: &[u32],
     bytes: &[u8],
     nodes: &mut [Node],
