@@ -1,2 +1,4 @@
+pub mod Children
 pub mod Marks
 pub mod Records
+pub mod Visible

@@ -1,4 +1,6 @@
 // Attributes, as a tree holds them.
+ghost use mathlib.Core.Path.{_≡_};
+ghost use Rattle.items.specs.Records.{isEmpty};
 use crate::ids::SyntaxContext;
 use paths::interned::PathId;
 
@@ -37,7 +39,9 @@ pub enum AttrsOrCfg {
 }
 
 impl AttrsOrCfg {
-    pub fn is_empty(self) -> bool {
+    pub fn is_empty(self) -> bool
+        ensures { λ r. ⌜ r ≡ isEmpty self ⌝ }
+    {
         match self {
             AttrsOrCfg::Enabled { attrs } => attrs.count == 0,
             AttrsOrCfg::CfgDisabled { .. } => false,

@@ -1,4 +1,6 @@
 // A record together with its node and its attributes.
+ghost use mathlib.Core.Path.{_≡_};
+ghost use Rattle.items.specs.Children.{childrenOf};
 use crate::attrs::AttrsOrCfg;
 use crate::ids::FileAstId;
 use crate::records::Const;
@@ -76,7 +78,9 @@ pub struct IndexedItem {
 
 impl ModItem {
     // The items inside a module or an extern block.
-    pub fn children(self) -> Option<ItemIds> {
+    pub fn children(self) -> Option<ItemIds>
+        ensures { λ r. ⌜ r ≡ childrenOf self ⌝ }
+    {
         match self {
             ModItem::Small(SmallModItem::ExternBlock(block)) => Some(block.children),
             ModItem::Big(BigModItem::Mod(module)) => match module.kind {

@@ -6,6 +6,7 @@ ghost use lib.ListN.{length};
 ghost use Rattle.std.specs.Results.{Cases};
 ghost use Rattle.tables.specs.Held.{held, marked};
 ghost use Rattle.items.specs.Records.{isExplicit};
+ghost use Rattle.items.specs.Visible.{visibilityAt};
 use crate::ids::RawVisibilityId;
 use paths::interned::PathId;
 use paths::interned::PathIdDebug;
@@ -104,7 +105,9 @@ impl Visibilities {
     }
 
     // The visibility that a number names: one of the four without a row, or a row.
-    pub fn get(&self, id: RawVisibilityId) -> Option<RawVisibility> {
+    pub fn get(&self, id: RawVisibilityId) -> Option<RawVisibility>
+        ensures { λ r. ⌜ r ≡ visibilityAt (held (now (self .entry) .rows)) (id .number) ⌝ }
+    {
         match id.number {
             4_294_967_295 => Some(RawVisibility::Public),
             4_294_967_294 => Some(RawVisibility::PubSelf(VisibilityExplicitness::Implicit)),

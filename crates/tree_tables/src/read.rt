@@ -1,11 +1,12 @@
 // Reading the tables.
 ghost use mathlib.Core.Path.{_≡_};
-ghost use Prim.Native.Nat.{_≤_};
+ghost use Prim.Native.Nat.{_+_, _<_, _≤_};
 ghost use lib.ListN.{length};
 ghost use Rattle.std.specs.Results.{Cases};
 ghost use Rattle.std.specs.declared.option.Option.the-variants.{Some, None};
 ghost use Rattle.syntax.specs.Meaning.{at};
 ghost use Rattle.syntax.specs.declared.refusal.Refusal.the-variants.{NotFound as NothingThere};
+ghost use Rattle.items.specs.Visible.{visibilityAt};
 ghost use Rattle.tree_tables.specs.Contents.{heldOf};
 ghost use Rattle.tree_tables.specs.Reading.{indexOf, attrsOf};
 use crate::tree::TreeTables;
@@ -93,7 +94,9 @@ impl TreeTables {
     }
 
     // An item inside a module or an extern block.
-    pub fn child(&self, items: ItemIds, index: u32) -> Result<ModItemId, Refusal> {
+    pub fn child(&self, items: ItemIds, index: u32) -> Result<ModItemId, Refusal>
+        ensures { λ r. ⌜ Cases r (λ x. (index < items .count) × (at (heldOf (now (self .entry)) .children) (items .first + index) ≡ Some x)) (λ e. e ≡ NothingThere) ⌝ }
+    {
         if index >= items.count {
             return Err(Refusal::NotFound);
         }
@@ -118,7 +121,9 @@ impl TreeTables {
         &self,
         list: VisibilityIds,
         index: u32,
-    ) -> Result<RawVisibilityId, Refusal> {
+    ) -> Result<RawVisibilityId, Refusal>
+        ensures { λ r. ⌜ Cases r (λ x. (index < list .count) × (at (heldOf (now (self .entry)) .ctors) (list .first + index) ≡ Some x)) (λ e. e ≡ NothingThere) ⌝ }
+    {
         if index >= list.count {
             return Err(Refusal::NotFound);
         }
@@ -128,7 +133,9 @@ impl TreeTables {
         Ok(id)
     }
 
-    pub fn raw_visibility(&self, id: RawVisibilityId) -> Result<RawVisibility, Refusal> {
+    pub fn raw_visibility(&self, id: RawVisibilityId) -> Result<RawVisibility, Refusal>
+        ensures { λ r. ⌜ Cases r (λ x. visibilityAt (heldOf (now (self .entry)) .visibilities) (id .number) ≡ Some x) (λ e. (e ≡ NothingThere) × (visibilityAt (heldOf (now (self .entry)) .visibilities) (id .number) ≡ None)) ⌝ }
+    {
         let Some(visibility) = self.visibilities.get(id) else {
             return Err(Refusal::NotFound);
         };

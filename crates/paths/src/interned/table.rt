@@ -1,9 +1,11 @@
 // Finding and adding paths.
 ghost use mathlib.Core.List.{[]};
 ghost use mathlib.Core.Path.{_≡_};
-ghost use Prim.Native.Nat.{_<_};
+ghost use Prim.Native.Nat.{_+_, _<_, _≤_};
 ghost use lib.ListN.{length};
 ghost use Rattle.std.specs.Results.{Cases};
+ghost use Rattle.std.specs.declared.option.Option.the-variants.{None};
+ghost use Rattle.syntax.specs.Meaning.{at};
 ghost use Rattle.tables.specs.Held.{held, marked};
 ghost use Rattle.paths.specs.Kept.{heldPaths, markedPaths};
 use crate::interned::InternedPath;
@@ -24,12 +26,16 @@ const MAX_PATHS: usize = 512;
 const MAX_ALL_SEGMENTS: usize = 2048;
 
 impl InternedPath {
-    pub fn kind(self) -> PathKind {
+    pub fn kind(self) -> PathKind
+        ensures { λ r. ⌜ r ≡ self .kind ⌝ }
+    {
         self.kind
     }
 
     // How many names the path has.
-    pub fn len(self) -> u32 {
+    pub fn len(self) -> u32
+        ensures { λ r. ⌜ r ≡ self .count ⌝ }
+    {
         self.count
     }
 }
@@ -113,12 +119,17 @@ impl Paths {
     }
 
     // The path of a number.
-    pub fn get(&self, id: PathId) -> Option<InternedPath> {
+    pub fn get(&self, id: PathId) -> Option<InternedPath>
+        ensures { λ r. ⌜ r ≡ at (held (now (self .entry) .parts)) (id .number) ⌝ }
+    {
         self.parts.get(id.number as usize)
     }
 
     // The name at an index of a path.
-    pub fn segment(&self, path: InternedPath, index: u32) -> Option<Name> {
+    pub fn segment(&self, path: InternedPath, index: u32) -> Option<Name>
+        ensures within { λ r. ⌜ (index < path .count → r ≡ at (held (now (self .entry) .segments)) (path .first + index)) ⌝ }
+        ensures past { λ r. ⌜ (path .count ≤ index → r ≡ None) ⌝ }
+    {
         if index >= path.count {
             return None;
         }

@@ -1,5 +1,11 @@
 // Reading a Path node.
-ghost use Prim.Native.Nat.{_≤_};
+ghost use mathlib.Core.Bool.{true};
+ghost use mathlib.Core.List.{[], _∷_, _++_};
+ghost use mathlib.Core.Path.{_≡_};
+ghost use Prim.Native.Nat.{_<_, _≤_};
+ghost use Rattle.syntax.specs.Meaning.{at};
+ghost use Rattle.paths.specs.Names.{namesOf};
+ghost use Rattle.paths.specs.declared.mod_path.PathKind.the-variants.{Plain};
 use crate::mod_path::MAX_SEGMENTS;
 use crate::mod_path::ModPath;
 use crate::mod_path::PathKind;
@@ -33,7 +39,9 @@ impl SegmentKind {
 }
 
 impl ModPath {
-    pub fn from_kind(kind: PathKind) -> ModPath {
+    pub fn from_kind(kind: PathKind) -> ModPath
+        ensures { λ r. ⌜ (r .kind ≡ kind) × (r .len ≡ 0) × (namesOf r ≡ []) ⌝ }
+    {
         ModPath {
             kind,
             segments: [Name::Missing; 64],
@@ -42,23 +50,29 @@ impl ModPath {
     }
 
     // The path of one name.
-    pub fn from_name(name: Name) -> ModPath {
+    pub fn from_name(name: Name) -> ModPath
+        ensures { λ r. ⌜ (r .kind ≡ Plain) × (namesOf r ≡ name ∷ []) ⌝ }
+    {
         let mut path = ModPath::from_kind(PathKind::Plain);
         let _ = path.push_name(name);
         path
     }
 
-    pub fn kind(&self) -> PathKind {
+    pub fn kind(&self) -> PathKind
+        ensures { λ r. ⌜ r ≡ now (self .entry) .kind ⌝ }
+    {
         self.kind
     }
 
     pub fn len(&self) -> usize
-        ensures { λ r. ⌜ r ≤ 64 ⌝ }
+        ensures { λ r. ⌜ (r ≡ now (self .entry) .len) × (r ≤ 64) ⌝ }
     {
         self.len
     }
 
-    pub fn segment(&self, index: usize) -> Option<Name> {
+    pub fn segment(&self, index: usize) -> Option<Name>
+        ensures { λ r. ⌜ r ≡ at (namesOf (now (self .entry))) index ⌝ }
+    {
         if index < self.len {
             Some(self.segments[index])
         } else {
@@ -101,7 +115,9 @@ impl ModPath {
         }
     }
 
-    fn push_name(&mut self, name: Name) -> bool {
+    fn push_name(&mut self, name: Name) -> bool
+        ensures { λ r. ⌜ (now (self .entry) .len < 64 → (r ≡ true) × (now (self .exit) .kind ≡ now (self .entry) .kind) × (namesOf (now (self .exit)) ≡ namesOf (now (self .entry)) ++ name ∷ [])) ⌝ }
+    {
         let len = self.len;
         if len >= MAX_SEGMENTS {
             return false;
