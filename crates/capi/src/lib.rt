@@ -1,4 +1,6 @@
 // Calls from C: each takes byte slices and keeps nothing between calls.
+#![tactic(auto)]
+
 use dump::run::{dump_packed, print_calls};
 use giltnewt::{
     Ctx, ItemTree, Needed, PackedSource, Refusal, SyntaxSource, print_item_tree, print_packed,

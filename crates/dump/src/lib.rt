@@ -1,4 +1,6 @@
 // All that a tree holds, written out by meaning.
+#![tactic(auto)]
+
 pub mod imports;
 pub mod merges;
 pub mod out;

@@ -1,4 +1,6 @@
 // The two forms of a syntax source: how they are read, judged and opened.
+#![tactic(auto)]
+
 pub mod agreement;
 mod judge;
 pub mod law;

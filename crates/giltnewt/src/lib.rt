@@ -1,4 +1,6 @@
 // The public calls of the item tree, named in one place.
+#![tactic(auto)]
+
 ghost use Rattle.std.specs.Prelude.{◌≡◌, ◌≤◌, length, MatchResult};
 
 // reading syntax

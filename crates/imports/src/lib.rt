@@ -1,4 +1,6 @@
 // Imports: use trees expanded, and use trees lowered together with their mapping.
+#![tactic(auto)]
+
 pub mod expand;
 pub mod import;
 pub mod lists;

@@ -1,4 +1,6 @@
 // The records of an item tree, with the names and fields of the Rust.
+#![tactic(auto)]
+
 pub mod attrs;
 pub mod ids;
 pub mod records;

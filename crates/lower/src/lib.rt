@@ -1,4 +1,6 @@
 // Lowering one node: how each kind of item is recorded in the tables of a tree.
+#![tactic(auto)]
+
 pub mod attrs;
 pub mod big;
 pub mod small;

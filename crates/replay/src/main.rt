@@ -1,4 +1,6 @@
 // replay: compares the port with answers of the Rust that are stored in data/cases.
+#![tactic(auto)]
+
 use crate::list::{Case, Cursor};
 use crate::replayed::agrees;
 use std::io::Write;

@@ -1,4 +1,6 @@
 // The rules of lowering, imports, constructors and printing, as definitions; what follows from them is in the contracts.
+#![tactic(auto)]
+
 ghost use Rattle.std.specs.Prelude.{◌≡◌};
 ghost use Rattle.rules.specs.Agreement.{Alike, TreesAgree};
 ghost use Rattle.rules.specs.Examples.{ExamplesStand};

@@ -1,4 +1,6 @@
 // The tables of a tree: adding to them, going back, and reading them.
+#![tactic(auto)]
+
 pub mod alloc;
 pub mod back;
 pub mod merge;

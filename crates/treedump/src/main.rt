@@ -1,4 +1,6 @@
 // treedump: makes the lowering calls that its arguments name over a packed form from standard input, and writes out the tree.
+#![tactic(auto)]
+
 use dump::run::{ROOT, dump_packed};
 use std::io::{Read, Write};
 use std::{env, io};

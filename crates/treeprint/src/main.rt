@@ -1,4 +1,6 @@
 // treeprint: prints the item tree of a packed form that it reads from standard input.
+#![tactic(auto)]
+
 use giltnewt::print_packed;
 use std::io;
 use std::io::{Read, Write};

@@ -12,4 +12,4 @@ returns-then-len-eq0 c =
 pub returns : goal.returns
 returns c =
     let span = get_or c.args.texts.now c.args.index no_span in
-    ap not c.is-repeated.ensures ∙ sym (text-fits c.args.bytes.now span _ (c.requires.1 c.args.index c.requires.0) c.if-len-eq0.false c.if-len-gt-MAX-TEXT-LEN.false)
+    ap not c.is_repeated.ensures ∙ sym (text-fits c.args.bytes.now span _ (c.requires.1 c.args.index c.requires.0) c.if-len-eq0.false c.if-len-gt-MAX_TEXT_LEN.false)

@@ -12,25 +12,25 @@ returns-then-levels-eq0 t c =
       | then-levels-eq0-via-else-levels-eq0+else-node-at+then-node-parent w ↦ bad_end c.args.texts c.args.parent l.least l.count c.args.nodes.now no_node l.at c.args.parent.end c.loop-at-test.true c.requires.1 c.args.levels (inr w.if-node-parent.true)
     ])
 
-pub returns-then-not-is-child : goal.returns-then-not-is-child
-returns-then-not-is-child t c =
+pub returns-then-not-is_child : goal.returns-then-not-is_child
+returns-then-not-is_child t c =
     let l = c.loop-at in
-    sym (l.invariant.2 ∙ bad_child c.args.texts c.args.parent l.least l.count c.args.nodes.now no_node l.at c.args.parent.end c.loop-at-test.true c.requires.1 c.args.levels (sym c.if-not-is-child.ensures))
+    sym (l.invariant.2 ∙ bad_child c.args.texts c.args.parent l.least l.count c.args.nodes.now no_node l.at c.args.parent.end c.loop-at-test.true c.requires.1 c.args.levels (sym c.if-not-is_child.ensures))
 
-pub returns-then-not-are-children : goal.returns-then-not-are-children
-returns-then-not-are-children t c =
+pub returns-then-not-are_children : goal.returns-then-not-are_children
+returns-then-not-are_children t c =
     let l = c.loop-at in
-    sym (l.invariant.2 ∙ bad-below c.args.texts c.args.parent l.least l.count c.args.nodes.now no_node l.at c.args.parent.end c.loop-at-test.true c.requires.1 c.args.levels (omega (arith, c.if-levels-eq0.false)) c.if-node-at.false c.if-node-parent.false (sym c.if-not-is-child.ensures) (sym c.if-not-are-children.ensures))
+    sym (l.invariant.2 ∙ bad-below c.args.texts c.args.parent l.least l.count c.args.nodes.now no_node l.at c.args.parent.end c.loop-at-test.true c.requires.1 c.args.levels (omega (arith, c.if-levels-eq0.false)) c.if-node-at.false c.if-node-parent.false (sym c.if-not-is_child.ensures) (sym c.if-not-are_children.ensures))
 
 pub loop-at-preserved : goal.loop-at-preserved
 loop-at-preserved t c =
     let l = c.loop-at in (
       c.if-node-parent.false,
       omega (arith, l.invariant.1, c.if-node-at.false),
-      l.invariant.2 ∙ next_child c.args.texts c.args.parent l.least l.count c.args.nodes.now no_node l.at c.args.parent.end c.loop-at-test.true c.requires.1 c.args.levels (omega (arith, c.if-levels-eq0.false)) c.if-node-at.false c.if-node-parent.false (sym c.if-not-is-child.ensures) c.place-after-least.result (sym c.if-not-are-children.ensures) c.place-after-least.ensures,
+      l.invariant.2 ∙ next_child c.args.texts c.args.parent l.least l.count c.args.nodes.now no_node l.at c.args.parent.end c.loop-at-test.true c.requires.1 c.args.levels (omega (arith, c.if-levels-eq0.false)) c.if-node-at.false c.if-node-parent.false (sym c.if-not-is_child.ensures) c.place_after-least.result (sym c.if-not-are_children.ensures) c.place_after-least.ensures,
     )
 
 pub returns : goal.returns
 returns t c =
     let l = c.loop-at in
-    c.count-fits.ensures ∙ sym (l.invariant.2 ∙ children-none c.args.texts c.args.parent l.least l.count c.args.levels c.args.nodes.now l.at c.args.parent.end (omega (arith, l.invariant.0, c.loop-at-test.false)))
+    c.count_fits.ensures ∙ sym (l.invariant.2 ∙ children-none c.args.texts c.args.parent l.least l.count c.args.levels c.args.nodes.now l.at c.args.parent.end (omega (arith, l.invariant.0, c.loop-at-test.false)))

@@ -3,8 +3,8 @@ use Rattle.syntax.specs.Trees.{between}
 use Rattle.syntax.specs.Law.{are_children}
 use Rattle.forms.proofs.law.+are_children.Given as goal
 
-abbrev pub decreases-are-children : goal.decreases-are-children
-decreases-are-children l = l.levels
+abbrev pub decreases-are_children : goal.decreases-are_children
+decreases-are_children l = l.levels
 
 abbrev pub invariant-loop-at : goal.invariant-loop-at
 invariant-loop-at l =

@@ -1,4 +1,4 @@
 use Rattle.forms.proofs.number.+read_higher.Given as goal
 
-abbrev pub decreases-read-higher : goal.decreases-read-higher
-decreases-read-higher l = l.more
+abbrev pub decreases-read_higher : goal.decreases-read_higher
+decreases-read_higher l = l.more

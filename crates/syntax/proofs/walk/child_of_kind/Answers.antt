@@ -7,7 +7,7 @@ use Rattle.syntax.proofs.walk.child_of_kind.Goals as goal
 
 pub loop-child-init : goal.loop-child-init
 loop-child-init g c stands =
-    let start = children-start _ c.args.parent _ (g.S.SyntaxSource.law c.args.source.now) c.first-child-at.ensures.next stands in
+    let start = children-start _ c.args.parent _ (g.S.SyntaxSource.law c.args.source.now) c.first_child-at.ensures.next stands in
     (start.0, ap (first_of c.args.kind) start.1)
 
 pub loop-child-preserved : goal.loop-child-preserved
@@ -34,6 +34,6 @@ returns g c =
     record {
       kind = tt;
       first = λ stands. let inv = c.loop-child.invariant stands in
-          first-none c.args.kind m c.loop-child.at c.args.parent.node.end (child_of c.args.kind m c.args.parent) inv.1 (c.in-default.ensures.first inv.0);
+          first-none c.args.kind m c.loop-child.at c.args.parent.node.end (child_of c.args.kind m c.args.parent) inv.1 (c.in_default.ensures.first inv.0);
       stands = λ stands. tt;
     }

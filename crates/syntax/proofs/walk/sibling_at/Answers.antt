@@ -5,9 +5,9 @@ use Rattle.syntax.proofs.walk.sibling_at.Goals as goal
 pub returns-then-at-end : goal.returns-then-at-end
 returns-then-at-end g c = record { bounds = tt; first = λ row. row-none _ _ _ row c.if-at-end.true }
 
-pub returns-in-default : goal.returns-in-default
-returns-in-default g c =
-    record { bounds = tt; first = λ row. absurd (row-some _ _ _ row c.if-at-end.false (sym c.in-default.ensures)) }
+pub returns-in_default : goal.returns-in_default
+returns-in_default g c =
+    record { bounds = tt; first = λ row. absurd (row-some _ _ _ row c.if-at-end.false (sym c.in_default.ensures)) }
 
 pub returns-then-node-at : goal.returns-then-node-at
 returns-then-node-at g c =

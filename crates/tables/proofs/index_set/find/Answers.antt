@@ -5,15 +5,15 @@ use Rattle.tables.proofs.index_set.find.Goals as goal
 pub loop-index-init : goal.loop-index-init
 loop-index-init g c = sought_none _ _ _
 
-pub returns-then-is-at : goal.returns-then-is-at
-returns-then-is-at g c =
+pub returns-then-is_at : goal.returns-then-is_at
+returns-then-is_at g c =
     let low : c.loop-index.index < length (g.T.KeyTable.keys c.args.table.now) = let e = c.count-index-end.ensures in omega arith in
-    sought_found _ _ _ _ low c.if-is-at.ensures c.loop-index.invariant
+    sought_found _ _ _ _ low c.if-is_at.ensures c.loop-index.invariant
 
 pub loop-index-preserved : goal.loop-index-preserved
 loop-index-preserved g c =
     let low : c.loop-index.index < length (g.T.KeyTable.keys c.args.table.now) = let e = c.count-index-end.ensures in omega arith in
-    sought_more _ _ _ _ low c.if-is-at.ensures c.loop-index.invariant
+    sought_more _ _ _ _ low c.if-is_at.ensures c.loop-index.invariant
 
 pub returns : goal.returns
 returns g c =

@@ -5,27 +5,27 @@ use Rattle.forms.proofs.Judging.{limits}
 use Rattle.forms.proofs.Opened.{unlawful, ruled, opened, within}
 use Rattle.forms.proofs.packed.PackedSource.open.Goals as goal
 
-pub returns-in-err-counts : goal.returns-in-err-counts
-returns-in-err-counts c =
-    let p = err_from_is_err_and c.from-residual.result c.from-residual.ensures.1 in
-    rw (p.1, p.2) (record { answers = refuses_unread c.args.bytes.now _ c.in-err-counts.ensures; keeps = refl })
+pub returns-in_err-counts : goal.returns-in_err-counts
+returns-in_err-counts c =
+    let p = err_from_is_err_and c.from_residual.result c.from_residual.ensures.1 in
+    rw (p.1, p.2) (record { answers = refuses_unread c.args.bytes.now _ c.in_err-counts.ensures; keeps = refl })
 
-pub returns-then-not-is-lawful : goal.returns-then-not-is-lawful
-returns-then-not-is-lawful c = record {
-  answers = unlawful (packed_exact c.args.bytes.now) c.args.bytes.now _ _ _ _ c.read-form.auto.nodes c.read-form.auto.texts c.in-ok-counts.ensures (sym c.if-not-is-lawful.ensures);
+pub returns-then-not-is_lawful : goal.returns-then-not-is_lawful
+returns-then-not-is_lawful c = record {
+  answers = unlawful (packed_exact c.args.bytes.now) c.args.bytes.now _ _ _ _ c.read_form.auto.nodes c.read_form.auto.texts c.in_ok-counts.ensures (sym c.if-not-is_lawful.ensures);
   keeps = refl;
 }
 
 pub invariant-of-self : goal.invariant-of-self
 invariant-of-self c =
     let bytes = c.args.bytes.now in
-    let nodes = c.read-form.new.nodes in
-    let texts = c.read-form.new.texts in
-    let counts = c.in-ok-counts.counts in
-    let read = c.in-ok-counts.ensures in
-    let law = sym c.if-not-is-lawful.ensures in
-    let node-room = c.read-form.auto.nodes in
-    let text-room = c.read-form.auto.texts in (
+    let nodes = c.read_form.new.nodes in
+    let texts = c.read_form.new.texts in
+    let counts = c.in_ok-counts.counts in
+    let read = c.in_ok-counts.ensures in
+    let law = sym c.if-not-is_lawful.ensures in
+    let node-room = c.read_form.auto.nodes in
+    let text-room = c.read_form.auto.texts in (
       limits bytes nodes counts.nodes texts counts.texts law,
       (
         (node-room, text-room),
@@ -38,8 +38,8 @@ invariant-of-self c =
 
 pub returns : goal.returns
 returns c =
-    let counts = c.in-ok-counts.counts in
+    let counts = c.in_ok-counts.counts in
     record {
-      answers = opened (packed_exact c.args.bytes.now) c.args.bytes.now c.read-form.new.nodes counts.nodes c.read-form.new.texts counts.texts c.read-form.auto.nodes c.read-form.auto.texts c.in-ok-counts.ensures (sym c.if-not-is-lawful.ensures);
+      answers = opened (packed_exact c.args.bytes.now) c.args.bytes.now c.read_form.new.nodes counts.nodes c.read_form.new.texts counts.texts c.read_form.auto.nodes c.read_form.auto.texts c.in_ok-counts.ensures (sym c.if-not-is_lawful.ensures);
       keeps = tt;
     }

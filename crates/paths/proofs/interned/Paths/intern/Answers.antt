@@ -6,17 +6,17 @@ use Rattle.paths.proofs.interned.Paths.intern.Goals as goal
 
 pub overflow-cast-result : goal.overflow-cast-result
 overflow-cast-result c =
-    let h = c.in-ok-index.ensures.inserts in
-    let low = place-below c.args.self.now (read_path c.args.path.now) c.in-ok-index.index h.1 (λ n. (h.0 n).0) in
+    let h = c.in_ok-index.ensures.inserts in
+    let low = place-below c.args.self.now (read_path c.args.path.now) c.in_ok-index.index h.1 (λ n. (h.0 n).0) in
     omega arith
 
 pub returns : goal.returns
 returns c =
-    let h = c.in-ok-index.ensures.inserts in
-    let low = place-below c.args.self.now (read_path c.args.path.now) c.in-ok-index.index h.1 (λ n. (h.0 n).0) in
-    record { interns = (h.0, h.1, h.2, low); marked = c.in-ok-index.ensures.marked }
+    let h = c.in_ok-index.ensures.inserts in
+    let low = place-below c.args.self.now (read_path c.args.path.now) c.in_ok-index.index h.1 (λ n. (h.0 n).0) in
+    record { interns = (h.0, h.1, h.2, low); marked = c.in_ok-index.ensures.marked }
 
-pub returns-in-err-index : goal.returns-in-err-index
-returns-in-err-index c =
-    let p = err_from_is_err_and c.from-residual.result c.from-residual.ensures.1 in
-    record { interns = rw (p.1, p.2) c.in-err-index.ensures.inserts; marked = c.in-err-index.ensures.marked }
+pub returns-in_err-index : goal.returns-in_err-index
+returns-in_err-index c =
+    let p = err_from_is_err_and c.from_residual.result c.from_residual.ensures.1 in
+    record { interns = rw (p.1, p.2) c.in_err-index.ensures.inserts; marked = c.in_err-index.ensures.marked }

@@ -6,7 +6,7 @@ use Rattle.paths.proofs.Held.{length-names}
 use Rattle.tables.proofs.Pushing.{pushed_none, pushed_room, pushed_more, pushed_all}
 use Rattle.paths.specs.Names.{names_of}
 use Rattle.paths.proofs.interned.table.push_names.Goals as goal
-use Rattle.paths.proofs.interned.table.push_names.Goals.{in-Some, in-default}
+use Rattle.paths.proofs.interned.table.push_names.Goals.{in-Some, in_default}
 
 pub loop-k-init : goal.loop-k-init
 loop-k-init c = (pushed_none (held c.args.segments.now) (names_of c.args.path.now), refl)
@@ -22,7 +22,7 @@ loop-k-preserved c =
         ap held w.segments-is ∙ pushed_more (held c.args.segments.now) names c.loop-k.k _ _ w.in-Some.name c.loop-k.invariant.0 (sym c.segment.ensures ∙ w.in-Some.is) (push_room 2048 w.push.result _ _ w.in-Some.name w.push.ensures.pushes room),
         ap marked w.segments-is ∙ w.push.ensures.marked ∙ c.loop-k.invariant.1,
       )
-      | in-default w ↦ (let far = at_none names c.loop-k.k (sym c.segment.ensures ∙ w.in-default.is) in absurd (omega arith))
+      | in_default w ↦ (let far = at_none names c.loop-k.k (sym c.segment.ensures ∙ w.in_default.is) in absurd (omega arith))
     ]
 
 pub returns : goal.returns

@@ -16,14 +16,14 @@ loop-segment-preserved g c = (
       counting_more _ _ _ _ _ counting c.in-Some.segment (c.in-Some.ensures.first counting.siblings) c.in-Super.ensures,
 )
 
-pub returns-in-default-of : goal.returns-in-default-of
-returns-in-default-of g c siblings few =
+pub returns-in_default-of : goal.returns-in_default-of
+returns-in_default-of g c siblings few =
     let counting = c.loop-segment.invariant.1 siblings few in
     let leads = c.in-Some.ensures.first counting.siblings in
-    let other : segment_of c.in-Some.segment.node ≡ super' → ⊥ = λ e. c.in-default-of.not-Super (written_super c.of.result (name_of c.in-Some.segment.node.text) (sym c.of.ensures ∙ e)) in
-    c.with-names.ensures counting.siblings counting.few ∙ counting_stop _ _ _ _ _ counting c.in-Some.segment leads other
+    let other : segment_of c.in-Some.segment.node ≡ super' → ⊥ = λ e. c.in_default-of.not-Super (written_super c.of.result (name_of c.in-Some.segment.node.text) (sym c.of.ensures ∙ e)) in
+    c.with_names.ensures counting.siblings counting.few ∙ counting_stop _ _ _ _ _ counting c.in-Some.segment leads other
 
 pub returns : goal.returns
 returns g c siblings few =
     let counting = c.loop-segment.invariant.1 siblings few in
-    counting_all _ _ _ _ _ counting c.from-kind.result c.from-kind.ensures.0 c.from-kind.ensures.2 (c.in-default.ensures.first counting.siblings)
+    counting_all _ _ _ _ _ counting c.from_kind.result c.from_kind.ensures.0 c.from_kind.ensures.2 (c.in_default.ensures.first counting.siblings)

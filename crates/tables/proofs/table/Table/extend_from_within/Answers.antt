@@ -4,7 +4,7 @@ use Rattle.tables.proofs.Places.{at_none}
 use Rattle.tables.proofs.Pushing.{pushed_none, pushed_room, pushed_more, pushed_all, within-length, within-next}
 use Rattle.tables.specs.Held.{held, marked}
 use Rattle.tables.proofs.table.Table.extend_from_within.Goals as goal
-use Rattle.tables.proofs.table.Table.extend_from_within.Goals.{in-Some, in-default}
+use Rattle.tables.proofs.table.Table.extend_from_within.Goals.{in-Some, in_default}
 
 pub loop-index-init : goal.loop-index-init
 loop-index-init g c = (pushed_none (held c.args.self.now) (take c.args.count (drop c.args.first (held c.args.self.now))), refl)
@@ -22,7 +22,7 @@ loop-index-preserved g c =
         ap held w.self-is ∙ pushed_more old more c.loop-index.index _ _ w.in-Some.row c.loop-index.invariant.0 (sym next ∙ sym c.get.ensures ∙ w.in-Some.is) (push_room _ w.push.result _ _ w.in-Some.row w.push.ensures.pushes room),
         ap marked w.self-is ∙ w.push.ensures.marked ∙ c.loop-index.invariant.1,
       )
-      | in-default w ↦ (let far = at_none more c.loop-index.index (sym next ∙ sym c.get.ensures ∙ w.in-default.is) in absurd (omega arith))
+      | in_default w ↦ (let far = at_none more c.loop-index.index (sym next ∙ sym c.get.ensures ∙ w.in_default.is) in absurd (omega arith))
     ]
 
 pub returns : goal.returns

@@ -21,10 +21,10 @@ returns-then-count-from c =
       marked = refl;
     }
 
-pub extend-from-within-requires-2 : goal.extend-from-within-requires-2
-extend-from-within-requires-2 c =
+pub extend_from_within-requires-2 : goal.extend_from_within-requires-2
+extend_from_within-requires-2 c =
     let rows = held c.args.self.now.attrs in
-    let l = ap length c.extend-from-within.ensures.held ∙ length-append rows (part rows c.args.first) in
+    let l = ap length c.extend_from_within.ensures.held ∙ length-append rows (part rows c.args.first) in
     let m = length_part rows c.args.first c.requires.first in
     let v = c.len-from.ensures.value in
     (omega arith, (omega arith, omega arith))
@@ -34,6 +34,6 @@ unfolding marked_of
 returns c =
     let t = c.args.self.now in
     record {
-      joins = joins_both t c.args.first c.args.second c.if-first-eq0.false c.if-second-eq0.false c.requires.first c.requires.second (held c.extend-from-within.new.self) _ (omega (arith, c.len-from.ensures.value)) c.extend-from-within.ensures.held (λ i. with_attrs (c.extend-from-within-2.ensures.held i) (held_of t)) _ c.len-from.ensures.value refl;
-      marked = λ i. with_attrs ((c.extend-from-within-2.ensures.marked ∙ c.extend-from-within.ensures.marked) i) (marked_of t);
+      joins = joins_both t c.args.first c.args.second c.if-first-eq0.false c.if-second-eq0.false c.requires.first c.requires.second (held c.extend_from_within.new.self) _ (omega (arith, c.len-from.ensures.value)) c.extend_from_within.ensures.held (λ i. with_attrs (c.extend_from_within-2.ensures.held i) (held_of t)) _ c.len-from.ensures.value refl;
+      marked = λ i. with_attrs ((c.extend_from_within-2.ensures.marked ∙ c.extend_from_within.ensures.marked) i) (marked_of t);
     }

@@ -7,12 +7,12 @@ use Rattle.tree_tables.proofs.Parts.{merges_unknown}
 use Rattle.tree_tables.proofs.tree.TreeTables.merge.Goals as goal
 use Rattle.tree_tables.proofs.tree.TreeTables.merge.Goals.{then-before-len-via-then-before-len, then-before-len-via-else-before-len+then-after-len}
 
-pub merge-known-requires : goal.merge-known-requires
-merge-known-requires c =
+pub merge_known-requires : goal.merge_known-requires
+merge_known-requires c =
     let rows = held c.args.self.now.attrs in
     record {
-      first = subst (Inside rows) c.part-of-before.ensures (omega (arith, c.len-len.ensures.value));
-      second = subst (Inside rows) c.part-of-after.ensures (omega (arith, c.len-len.ensures.value));
+      first = subst (Inside rows) c.part_of-before.ensures (omega (arith, c.len-len.ensures.value));
+      second = subst (Inside rows) c.part_of-after.ensures (omega (arith, c.len-len.ensures.value));
     }
 
 pub returns-then-before-len : goal.returns-then-before-len
@@ -20,8 +20,8 @@ returns-then-before-len c =
     let rows = held c.args.self.now.attrs in
     record {
       merges = merges_unknown c.args.self.now c.args.second c.args.first (λ h k.
-          let first : Inside rows c.part-of-before.result = subst (Inside rows) (sym c.part-of-before.ensures) h in
-          let second : Inside rows c.part-of-after.result = subst (Inside rows) (sym c.part-of-after.ensures) k in
+          let first : Inside rows c.part_of-before.result = subst (Inside rows) (sym c.part_of-before.ensures) h in
+          let second : Inside rows c.part_of-after.result = subst (Inside rows) (sym c.part_of-after.ensures) k in
           elim c.then-before-len.branch [
             | then-before-len-via-then-before-len w ↦ omega (arith, w.if-before-len.true, c.len-len.ensures.value)
             | then-before-len-via-else-before-len+then-after-len w ↦ omega (arith, w.if-after-len.true, c.len-len.ensures.value)

@@ -9,19 +9,19 @@ pub returns : goal.returns
 unfolding Added Became marked_of
 returns c =
     let s = c.args.self.now in
-    let h = c.in-ok-push.ensures.pushes in
+    let h = c.in_ok-push.ensures.pushes in
     record {
       pushes = ((let a = h.0 in let b = h.1 in omega arith), λ i. with_ctors (h.2 i) (held_of s));
-      marked = λ i. with_ctors (c.in-ok-push.ensures.marked i) (marked_of s);
+      marked = λ i. with_ctors (c.in_ok-push.ensures.marked i) (marked_of s);
     }
 
-pub returns-in-err-push : goal.returns-in-err-push
+pub returns-in_err-push : goal.returns-in_err-push
 unfolding Added Became marked_of
-returns-in-err-push c =
+returns-in_err-push c =
     let s = c.args.self.now in
-    let p = err_from_is_err_and c.from-residual.result c.from-residual.ensures.1 in
-    let h = c.in-err-push.ensures.pushes in
+    let p = err_from_is_err_and c.from_residual.result c.from_residual.ensures.1 in
+    let h = c.in_err-push.ensures.pushes in
     record {
       pushes = rw (p.1, p.2) (h.0, h.1, λ i. with_ctors (h.2 i) (held_of s));
-      marked = λ i. with_ctors (c.in-err-push.ensures.marked i) (marked_of s);
+      marked = λ i. with_ctors (c.in_err-push.ensures.marked i) (marked_of s);
     }

@@ -15,11 +15,11 @@ returns-then-number-eq0 c =
           grind (arith, nat_tests, p, w.if-number-eq0.false)
     ]
 
-pub slice-bounds-result-end : goal.slice-bounds-result-end
-slice-bounds-result-end c =
+pub slice_bounds-result-end : goal.slice_bounds-result-end
+slice_bounds-result-end c =
     let s = c.args.self.now in
     let k : ℕ = c.args.number - 1 in
-    let fits : span_end c.span-from-span.result ≤ length s.bytes.now = subst (λ x. span_end x ≤ length s.bytes.now) (span_in s.words.now k (omega (arith, c.if-number-eq0.false)) ∙ sym c.span-from-span.ensures) (s.within k (omega (arith, c.if-number-eq0.false))) in
+    let fits : span_end c.span_from-span.result ≤ length s.bytes.now = subst (λ x. span_end x ≤ length s.bytes.now) (span_in s.words.now k (omega (arith, c.if-number-eq0.false)) ∙ sym c.span_from-span.ensures) (s.within k (omega (arith, c.if-number-eq0.false))) in
     omega arith
 
 pub returns : goal.returns
@@ -27,9 +27,9 @@ returns c =
     let s = c.args.self.now in
     let bytes = s.bytes.now in
     let k : ℕ = c.args.number - 1 in
-    let span = c.span-from-span.result in
+    let span = c.span_from-span.result in
     let p = text_at_lem s.words.now bytes k (omega (arith, c.if-number-eq0.false)) in
     let len : span.start + span.len - span.start ≡ span.len = omega arith in
     let e : spanned bytes span ≡ take (span.start + span.len - span.start) (drop span.start bytes) = ap (λ m. take m (drop span.start bytes)) (sym len) in
-    let q = ap (spanned bytes) c.span-from-span.ensures in
+    let q = ap (spanned bytes) c.span_from-span.ensures in
     grind (arith, nat_tests, p, e, q, c.if-number-eq0.false)
