@@ -44,7 +44,7 @@ pub trait KeyTable<K> {
 
 // The index of the first key that is alike.
 fn find<K, T: KeyTable<K>>(table: &T, key: &K) -> Option<usize>
-    ensures { MatchOption result (has same (keys table.now) (meant key.now) ≡ false) (λ i. (has same (keys table.now) (meant key.now) ≡ true) × (i ≡ place same (keys table.now) (meant key.now))) }
+    ensures { MatchOption result (has T.same (T.keys table.now) (T.meant key.now) ≡ false) (λ i. (has T.same (T.keys table.now) (T.meant key.now) ≡ true) × (i ≡ place T.same (T.keys table.now) (T.meant key.now))) }
 {
     for index in 0..table.count() {
         if table.is_at(index, key) {
@@ -56,9 +56,9 @@ fn find<K, T: KeyTable<K>>(table: &T, key: &K) -> Option<usize>
 
 // The index of a key, which is appended where none is alike.
 pub fn insert_full<K, T: KeyTable<K>>(table: &mut T, key: &K) -> Result<usize, Refusal>
-    ensures inserts { Inserted same (room (keys table.old) (meant key.now)) (keys table.old) (meant key.now) result (keys table.new) }
-    ensures apart { distinct same (keys table.new) ≡ true }
-    ensures marked { marked table.new ≡ marked table.old }
+    ensures inserts { Inserted T.same (T.room (T.keys table.old) (T.meant key.now)) (T.keys table.old) (T.meant key.now) result (T.keys table.new) }
+    ensures apart { distinct T.same (T.keys table.new) ≡ true }
+    ensures marked { T.marked table.new ≡ T.marked table.old }
 {
     if let Some(index) = find(table, key) {
         return Ok(index);

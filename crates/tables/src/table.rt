@@ -1,6 +1,7 @@
 // A table of at most `N` rows that can go back to a length that was marked.
 ghost use Rattle.std.specs.Prelude.{◌≡◌, ◌≤◌, length};
 
+pub mod copies;
 pub mod methods;
 pub mod within;
 
@@ -10,7 +11,7 @@ pub struct Rows<T, const N: usize> {
     rows: [T; N],
 }
 
-#[derive(Clone, Copy)]
+#[derive(Copy)]
 pub struct Table<T, const N: usize> {
     inner: Rows<T, N>,
     len: usize,

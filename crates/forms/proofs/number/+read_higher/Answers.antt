@@ -23,11 +23,11 @@ returns-in_err-higher t c =
     let some : 0 < c.args.more = ⊎_elim (λ p. absurd (omega (arith, p.1, c.if-byte-lt128.false))) (λ n. omega (arith, n)) c.else-more-eq0.either in
     rw (p.1, p.2) (higher_fault c.args.bytes.now c.args.at c.if-at-bytes.false c.args.more _ some (c.if-byte-lt128.false, omega (arith, c.type_inv.bytes c.args.at)) c.in_err-higher.ensures)
 
-pub overflow-mul-result : goal.overflow-mul-result
-overflow-mul-result t c = omega (arith, bound_most (c.args.more - 1) (omega (arith, c.requires)), c.in_ok-higher.ensures.1)
+pub overflow_mul-result : goal.overflow_mul-result
+overflow_mul-result t c = omega (arith, bound_most (c.args.more - 1) (omega (arith, c.requires)), c.in_ok-higher.ensures.1)
 
-pub overflow-add-result-2 : goal.overflow-add-result-2
-overflow-add-result-2 t c = omega (arith, bound_most (c.args.more - 1) (omega (arith, c.requires)), c.in_ok-higher.ensures.1, c.type_inv.bytes c.args.at)
+pub overflow_add-result-2 : goal.overflow_add-result-2
+overflow_add-result-2 t c = omega (arith, bound_most (c.args.more - 1) (omega (arith, c.requires)), c.in_ok-higher.ensures.1, c.type_inv.bytes c.args.at)
 
 pub returns : goal.returns
 returns t c =

@@ -16,8 +16,8 @@ returns-then-not-is_lawful c = record {
   keeps = refl;
 }
 
-pub invariant-of-self : goal.invariant-of-self
-invariant-of-self c =
+pub invariant_of-self : goal.invariant_of-self
+invariant_of-self c =
     let bytes = c.args.bytes.now in
     let nodes = c.read_form.new.nodes in
     let texts = c.read_form.new.texts in

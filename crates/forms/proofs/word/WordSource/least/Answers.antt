@@ -2,6 +2,6 @@ use Rattle.std.proofs.Common.{refl, arith}
 use Rattle.syntax.specs.Law.{sound, lawful_nodes, lawful}
 use Rattle.forms.proofs.word.WordSource.least.Goals as goal
 
-pub invariant-of-result : goal.invariant-of-result
+pub invariant_of-result : goal.invariant_of-result
 unfolding sound lawful_nodes lawful
-invariant-of-result c = (refl, ((λ k less. absurd (omega arith)), (refl, tt)))
+invariant_of-result c = (refl, ((λ k less. absurd (omega arith)), (refl, tt)))

@@ -15,8 +15,8 @@ returns-then-not-is_lawful c = record {
   keeps = refl;
 }
 
-pub invariant-of-self : goal.invariant-of-self
-invariant-of-self c =
+pub invariant_of-self : goal.invariant_of-self
+invariant_of-self c =
     let words = c.args.words.now in
     let bytes = c.args.bytes.now in
     let counts = c.in_ok-counts.counts in

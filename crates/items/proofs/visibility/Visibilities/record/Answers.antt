@@ -7,8 +7,8 @@ use Rattle.tables.specs.Held.{held}
 use Rattle.items.specs.Recorded.{same_visibility}
 use Rattle.items.proofs.visibility.Visibilities.record.Goals as goal
 
-pub overflow-cast-result : goal.overflow-cast-result
-overflow-cast-result c =
+pub overflow_cast-result : goal.overflow_cast-result
+overflow_cast-result c =
     let h = c.in_ok-index.ensures.inserts in
     let low = place-below same_visibility 128 (held c.args.self.now.rows) c.args.visibility c.in_ok-index.index h.1 (length-held-le c.args.self.now.rows) h.0 in
     omega arith

@@ -4,7 +4,7 @@ use Rattle.items.proofs.Apart.{apart_pushed}
 use Rattle.items.specs.Recorded.{same_visibility}
 use Rattle.items.proofs.visibility.VisibilitiesKeyTableRawVisibility.append.Goals as goal
 
-pub invariant-of-self : goal.invariant-of-self
-invariant-of-self c =
+pub invariant_of-self : goal.invariant_of-self
+invariant_of-self c =
     let apart = c.args.self.now.apart in
     ((apart_pushed c.push.result _ _ _ c.push.ensures.pushes c.requires apart.0, ap (distinct same_visibility) c.push.ensures.marked ∙ apart.1), tt)

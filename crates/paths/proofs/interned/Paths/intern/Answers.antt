@@ -4,8 +4,8 @@ use Rattle.paths.proofs.Held.{place-below}
 use Rattle.paths.specs.Kept.{read_path}
 use Rattle.paths.proofs.interned.Paths.intern.Goals as goal
 
-pub overflow-cast-result : goal.overflow-cast-result
-overflow-cast-result c =
+pub overflow_cast-result : goal.overflow_cast-result
+overflow_cast-result c =
     let h = c.in_ok-index.ensures.inserts in
     let low = place-below c.args.self.now (read_path c.args.path.now) c.in_ok-index.index h.1 (λ n. (h.0 n).0) in
     omega arith

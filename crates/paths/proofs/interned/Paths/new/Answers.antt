@@ -3,8 +3,8 @@ use Rattle.paths.specs.Kept.{paths_in, marked_paths_in}
 use Rattle.paths.proofs.Laid.{laid_none, laid_same, meant-none, meant-same}
 use Rattle.paths.proofs.interned.Paths.new.Goals as goal
 
-pub invariant-of-result : goal.invariant-of-result
-invariant-of-result c = (
+pub invariant_of-result : goal.invariant_of-result
+invariant_of-result c = (
   (
     laid_same c.new.ensures.held c.new-2.ensures.held laid_none,
     laid_same c.new.ensures.marked c.new-2.ensures.marked laid_none,

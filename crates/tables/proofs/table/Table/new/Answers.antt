@@ -3,8 +3,8 @@ use lib.ListN.{length-replicate}
 use Rattle.tables.specs.Held.{held, marked}
 use Rattle.tables.proofs.table.Table.new.Goals as goal
 
-pub invariant-of-result : goal.invariant-of-result
-invariant-of-result g c = ((omega arith, omega arith, length-replicate _ _), tt)
+pub invariant_of-result : goal.invariant_of-result
+invariant_of-result g c = ((omega arith, omega arith, length-replicate _ _), tt)
 
 pub returns : goal.returns
 unfolding held marked

@@ -30,9 +30,9 @@ push_names-requires c =
     let few = c.len-count.ensures.0 in
     omega arith
 
-pub invariant-of-self-2 : goal.invariant-of-self-2
+pub invariant_of-self-2 : goal.invariant_of-self-2
 unfolding paths_in
-invariant-of-self-2 c =
+invariant_of-self-2 c =
     let s = c.args.self.now in
     let added = more_is (held s.parts) c.in_ok-index.ensures.pushes.2 c.kind.ensures c.len-first.ensures.value (c.len-count.ensures.0 ∙ sym (length-names c.args.key.now)) in (
       (
