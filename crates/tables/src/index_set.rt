@@ -1,50 +1,30 @@
 // Keys by index, no two of them alike, in a table that is lent.
-ghost use Rattle.std.specs.Prelude.{◌≡◌, Bool, true, false, List, length, MatchOption};
-ghost use Rattle.syntax.specs.Meaning.{at};
-ghost use Rattle.tables.specs.Insertion.{Appended, Inserted};
-ghost use Rattle.tables.specs.Sets.{Equivalence, Runs, distinct, has, place, same_at};
+ghost use Rattle.std.specs.Prelude.{◌≡◌, ℕ, ◌<◌, IfSome, Result as Answer};
+ghost use Rattle.syntax.specs.declared.refusal.Refusal.{Refusal as Why};
+ghost use Rattle.tables.specs.Insertion.{Inserted};
 
 use syntax::refusal::Refusal;
 
 // A table of keys, as an index set needs it.
 pub trait KeyTable<K> {
-    // what keys are compared by
-    ghost Meant: { Type 0 };
+    ghost count: { Self → ℕ };
 
-    ghost meant: { K → Meant };
-
-    // whether two keys are alike
-    ghost same: { Meant → Meant → Bool };
-
-    ghost equivalence: { Equivalence same };
-
-    // the keys that a table holds, and would hold after going back
-    ghost keys: { Self → List Meant };
-
-    ghost marked: { Self → List Meant };
-
-    ghost apart: { (s : Self) → distinct same (keys s) ≡ true };
-
-    // that a key has room beside those that are held
-    ghost room: { List Meant → Meant → Type 0 };
+    // what a table is after a key was appended, or found no room
+    ghost appends: { Self → K → Answer ℕ Why → Self → Type 0 };
 
     fn count(&self) -> usize
-        ensures { result ≡ length (keys self.now) };
+        ensures { result ≡ count self.now };
 
     // Whether the key at an index is alike.
-    fn is_at(&self, index: usize, key: &K) -> bool
-        ensures { result ≡ same_at same (at (keys self.now) index) (meant key.now) };
+    fn is_at(&self, index: usize, key: &K) -> bool;
 
-    // One key more, which is not held.
     fn append(&mut self, key: &K) -> Result<usize, Refusal>
-        requires { has same (keys self.old) (meant key.now) ≡ false }
-        ensures appends { Appended (room (keys self.old) (meant key.now)) (keys self.old) (meant key.now) result (keys self.new) }
-        ensures marked { marked self.new ≡ marked self.old };
+        ensures { appends self.old key.now result self.new };
 }
 
 // The index of the first key that is alike.
 fn find<K, T: KeyTable<K>>(table: &T, key: &K) -> Option<usize>
-    ensures { MatchOption result (has T.same (T.keys table.now) (T.meant key.now) ≡ false) (λ i. (has T.same (T.keys table.now) (T.meant key.now) ≡ true) × (i ≡ place T.same (T.keys table.now) (T.meant key.now))) }
+    ensures { IfSome result (λ i. i < T.count table.now) }
 {
     for index in 0..table.count() {
         if table.is_at(index, key) {
@@ -56,17 +36,10 @@ fn find<K, T: KeyTable<K>>(table: &T, key: &K) -> Option<usize>
 
 // The index of a key, which is appended where none is alike.
 pub fn insert_full<K, T: KeyTable<K>>(table: &mut T, key: &K) -> Result<usize, Refusal>
-    ensures inserts { Inserted T.same (T.room (T.keys table.old) (T.meant key.now)) (T.keys table.old) (T.meant key.now) result (T.keys table.new) }
-    ensures apart { distinct T.same (T.keys table.new) ≡ true }
-    ensures marked { T.marked table.new ≡ T.marked table.old }
+    ensures { Inserted T.count T.appends table.old key.now result table.new }
 {
     if let Some(index) = find(table, key) {
         return Ok(index);
     }
     table.append(key)
 }
-
-// At every key whose comparison is an equivalence, a set that began empty holds what came, each once.
-pub fn set_stands<K: Drop>(_key: K)
-    ensures { (compared : K → K → Bool) → Equivalence compared → (came : List K) → Runs compared came }
-{}

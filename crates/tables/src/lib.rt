@@ -2,4 +2,5 @@
 #![tactic(auto)]
 
 pub mod index_set;
+pub mod key_set;
 pub mod table;

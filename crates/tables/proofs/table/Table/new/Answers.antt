@@ -4,7 +4,7 @@ use Rattle.tables.specs.Held.{held, marked}
 use Rattle.tables.proofs.table.Table.new.Goals as goal
 
 pub invariant_of-result : goal.invariant_of-result
-invariant_of-result g c = ((omega arith, omega arith, length-replicate _ _), tt)
+invariant_of-result g c = record { fits = (omega arith, omega arith, length-replicate _ _) }
 
 pub returns : goal.returns
 unfolding held marked
