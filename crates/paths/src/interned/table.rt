@@ -1,11 +1,11 @@
 // Finding and adding paths.
-ghost use Rattle.std.specs.Prelude.{◌≡◌, ◌+◌, ◌≤◌, true, false, [], ◌++◌, length, IfSome, ◌≢◌};
+ghost use Rattle.std.specs.Prelude.{◌≡◌, ◌+◌, ◌<◌, ◌≤◌, true, false, [], ◌++◌, length, IfOk, IfSome, ◌≢◌};
 ghost use Rattle.std.specs.Option.{option_map};
 ghost use Rattle.syntax.specs.Meaning.{at};
 ghost use Rattle.tables.specs.Held.{held, marked};
 ghost use Rattle.paths.specs.Alike.{same_path, Room};
 ghost use Rattle.paths.specs.Interning.{Interned};
-ghost use Rattle.paths.specs.Kept.{paths_in, marked_paths_in, read_path, shown};
+ghost use Rattle.paths.specs.Kept.{PathRows, held_paths, marked_paths, paths_in, marked_paths_in, read_path, shown};
 ghost use Rattle.paths.specs.Names.{names_of};
 ghost use Rattle.paths.specs.Same.{path_equivalence, paths-apart};
 ghost use Rattle.paths.specs.Spelling.{Path};
@@ -14,7 +14,8 @@ use crate::interned::{InternedPath, PathId, Paths};
 use crate::mod_path::{ModPath, PathKind};
 use crate::name::Name;
 use syntax::refusal::Refusal;
-use tables::index_set::{KeyTable, insert_full};
+use tables::index_set::KeyTable;
+use tables::key_set::{KeySet, insert_key};
 use tables::table::Table;
 
 const MAX_ALL_SEGMENTS: usize = 2048;
@@ -48,28 +49,30 @@ fn same_name(a: Option<Name>, b: Option<Name>) -> bool
     a == b
 }
 
-impl KeyTable<ModPath> for Paths {
+impl KeySet<ModPath> for Paths {
     ghost Meant = { Path };
 
     ghost meant = { read_path };
 
     ghost same = { same_path };
 
-    ghost equivalence = { path-equivalence };
+    ghost equivalence = { path_equivalence };
 
     ghost keys = { paths_in };
 
-    ghost marked = { marked_paths_in };
+    ghost Marked = { PathRows };
+
+    ghost marked = { marked_paths };
 
     ghost apart = { paths-apart };
 
     ghost room = { Room };
 
-    fn count(&self) -> usize {
+    fn key_count(&self) -> usize {
         self.parts.len()
     }
 
-    fn is_at(&self, index: usize, key: &ModPath) -> bool {
+    fn is_alike(&self, index: usize, key: &ModPath) -> bool {
         let Some(part) = self.parts.get(index) else {
             return false;
         };
@@ -84,7 +87,7 @@ impl KeyTable<ModPath> for Paths {
         true
     }
 
-    fn append(&mut self, key: &ModPath) -> Result<usize, Refusal> {
+    fn push_key(&mut self, key: &ModPath) -> Result<usize, Refusal> {
         let first = self.segments.len();
         let count = key.len();
         if count > MAX_ALL_SEGMENTS.saturating_sub(first) {
@@ -98,6 +101,25 @@ impl KeyTable<ModPath> for Paths {
         let index = self.parts.push(part)?;
         push_names(&mut self.segments, key);
         Ok(index)
+    }
+}
+
+impl KeyTable<ModPath> for Paths {
+    ghost count = { λ s. length (held s.parts) };
+
+    ghost appends = { λ s key r t. (marked_paths t ≡ marked_paths s) × IfOk r (λ i. i < 512) };
+
+    fn count(&self) -> usize {
+        self.parts.len()
+    }
+
+    fn is_at(&self, index: usize, key: &ModPath) -> bool {
+        self.is_alike(index, key)
+    }
+
+    // A path that is held stays as it is.
+    fn append(&mut self, key: &ModPath) -> Result<usize, Refusal> {
+        insert_key(self, key)
     }
 }
 
@@ -116,6 +138,7 @@ fn push_names(segments: &mut Table<Name, 2048>, path: &ModPath)
 
 impl Paths {
     pub fn new() -> Paths
+        ensures rows { held_paths result ≡ ([], []) }
         ensures held { paths_in result ≡ [] }
         ensures marked { marked_paths_in result ≡ [] }
     {
@@ -134,8 +157,9 @@ impl Paths {
     pub fn intern(&mut self, path: &ModPath) -> Result<PathId, Refusal>
         ensures interns { Interned (paths_in self.old) (read_path path.now) result (paths_in self.new) }
         ensures marked { marked_paths_in self.new ≡ marked_paths_in self.old }
+        ensures marked_rows { marked_paths self.new ≡ marked_paths self.old }
     {
-        let index = insert_full(self, path)?;
+        let index = insert_key(self, path)?;
         Ok(PathId {
             number: index as u32,
         })
@@ -143,6 +167,7 @@ impl Paths {
 
     // The path of a number.
     pub fn get(&self, id: PathId) -> Option<InternedPath>
+        ensures row { result ≡ at (held self.now.parts) id.number }
         ensures path { option_map (shown self.now) result ≡ at (paths_in self.now) id.number }
         ensures len { IfSome result (λ part. part.count ≡ length (shown self.now part).names) }
     {
@@ -151,7 +176,9 @@ impl Paths {
 
     // The name at an index of a path.
     pub fn segment(&self, path: InternedPath, index: u32) -> Option<Name>
-        ensures { result ≡ at (shown self.now path).names index }
+        ensures name { result ≡ at (shown self.now path).names index }
+        ensures within { index < path.count → result ≡ at (held self.now.segments) (path.first + index) }
+        ensures past { path.count ≤ index → result ≡ None }
     {
         if index >= path.count {
             return None;
@@ -162,6 +189,8 @@ impl Paths {
     pub fn set_mark(&mut self)
         ensures held { paths_in self.new ≡ paths_in self.old }
         ensures marked { marked_paths_in self.new ≡ paths_in self.old }
+        ensures held_rows { held_paths self.new ≡ held_paths self.old }
+        ensures marked_rows { marked_paths self.new ≡ held_paths self.old }
     {
         self.parts.set_mark();
         self.segments.set_mark();
@@ -170,6 +199,7 @@ impl Paths {
     pub fn go_back(&mut self)
         ensures held { paths_in self.new ≡ marked_paths_in self.old }
         ensures marked { marked_paths_in self.new ≡ marked_paths_in self.old }
+        ensures held_rows { held_paths self.new ≡ marked_paths self.old }
     {
         self.parts.go_back();
         self.segments.go_back();

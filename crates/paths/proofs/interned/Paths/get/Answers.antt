@@ -8,4 +8,4 @@ pub returns : goal.returns
 unfolding paths_in
 returns c =
     let s = c.args.self.now in
-    record { path = ap (option_map (shown s)) c.get.ensures ∙ sym (at-meant _ _ _); len = some_laid _ _ s.laid.0 _ _ c.get.ensures }
+    record { row = c.get.ensures; path = ap (option_map (shown s)) c.get.ensures ∙ sym (at-meant _ _ _); len = some_laid _ _ s.laid.0 _ _ c.get.ensures }

@@ -7,8 +7,8 @@ use Rattle.paths.proofs.Laid.{count_laid}
 use Rattle.paths.specs.Kept.{read_path, shown}
 use Rattle.paths.specs.Names.{names_of}
 use Rattle.paths.specs.Spelling.{Path}
-use Rattle.paths.proofs.interned.table.PathsKeyTableModPath.is_at.Goals as goal
-use Rattle.paths.proofs.interned.table.PathsKeyTableModPath.is_at.Goals.{then-not-same_kind-via-then-not-same_kind, then-not-same_kind-via-else-not-same_kind+then-part-len}
+use Rattle.paths.proofs.interned.table.PathsKeySetModPath.is_alike.Goals as goal
+use Rattle.paths.proofs.interned.table.PathsKeySetModPath.is_alike.Goals.{then-not-same_kind-via-then-not-same_kind, then-not-same_kind-via-else-not-same_kind+then-part-len}
 
 pub returns-in_default : goal.returns-in_default
 returns-in_default c = no_row c.args.self.now c.args.index (read_path c.args.key.now) _ c.get.ensures c.in_default.is
@@ -28,7 +28,7 @@ returns-then-not-same_kind c =
 pub returns-then-not-same_name : goal.returns-then-not-same_name
 returns-then-not-same_name c =
     row-differs c.args.self.now c.args.index (read_path c.args.key.now) _ c.get.ensures c.in-Some.part c.in-Some.is
-    (λ e. c.same_name.ensures.other c.if-not-same_name.true (c.segment.ensures ∙ ap (λ (x : Path). at x.names c.loop-k.k) e ∙ sym c.segment-in-loop-k.ensures))
+    (λ e. c.same_name.ensures.other c.if-not-same_name.true (c.segment.ensures.name ∙ ap (λ (x : Path). at x.names c.loop-k.k) e ∙ sym c.segment-in-loop-k.ensures))
 
 pub returns : goal.returns
 returns c =
