@@ -1,5 +1,5 @@
 // Visibilities, as they are written and as a tree holds them.
-ghost use Rattle.std.specs.Prelude.{◌≡◌, true, false, [], ◌≢◌};
+ghost use Rattle.std.specs.Prelude.{◌≡◌, ◌<◌, true, false, List, [], length, IfOk, ◌≢◌};
 ghost use Rattle.tables.specs.Held.{held, marked};
 ghost use Rattle.tables.specs.Sets.{distinct};
 ghost use Rattle.items.specs.Recorded.{Recorded, RoomFor, same_visibility, visibility_equivalence};
@@ -11,7 +11,8 @@ use crate::ids::RawVisibilityId;
 use paths::interned::PathId;
 use paths::mod_path::ModPath;
 use syntax::refusal::Refusal;
-use tables::index_set::{KeyTable, insert_full};
+use tables::index_set::KeyTable;
+use tables::key_set::{KeySet, insert_key};
 use tables::table::Table;
 
 // Whether a private visibility is written out.
@@ -68,16 +69,18 @@ fn same(a: RawVisibility, b: RawVisibility) -> bool
     a == b
 }
 
-impl KeyTable<RawVisibility> for Visibilities {
+impl KeySet<RawVisibility> for Visibilities {
     ghost Meant = { Row };
 
     ghost meant = { λ v. v };
 
     ghost same = { same_visibility };
 
-    ghost equivalence = { visibility-equivalence };
+    ghost equivalence = { visibility_equivalence };
 
     ghost keys = { λ s. held s.rows };
+
+    ghost Marked = { List Row };
 
     ghost marked = { λ s. marked s.rows };
 
@@ -85,19 +88,38 @@ impl KeyTable<RawVisibility> for Visibilities {
 
     ghost room = { RoomFor };
 
-    fn count(&self) -> usize {
+    fn key_count(&self) -> usize {
         self.rows.len()
     }
 
-    fn is_at(&self, index: usize, key: &RawVisibility) -> bool {
+    fn is_alike(&self, index: usize, key: &RawVisibility) -> bool {
         match self.rows.get(index) {
             Some(row) => same(row, *key),
             None => false,
         }
     }
 
-    fn append(&mut self, key: &RawVisibility) -> Result<usize, Refusal> {
+    fn push_key(&mut self, key: &RawVisibility) -> Result<usize, Refusal> {
         self.rows.push(*key)
+    }
+}
+
+impl KeyTable<RawVisibility> for Visibilities {
+    ghost count = { λ s. length (held s.rows) };
+
+    ghost appends = { λ s key r t. (marked t.rows ≡ marked s.rows) × IfOk r (λ i. i < 128) };
+
+    fn count(&self) -> usize {
+        self.rows.len()
+    }
+
+    fn is_at(&self, index: usize, key: &RawVisibility) -> bool {
+        self.is_alike(index, key)
+    }
+
+    // A visibility that is held stays as it is.
+    fn append(&mut self, key: &RawVisibility) -> Result<usize, Refusal> {
+        insert_key(self, key)
     }
 }
 
@@ -116,7 +138,7 @@ impl Visibilities {
         ensures records { Recorded (held self.old.rows) visibility result (held self.new.rows) }
         ensures marked { marked self.new.rows ≡ marked self.old.rows }
     {
-        let index = insert_full(self, &visibility)?;
+        let index = insert_key(self, &visibility)?;
         Ok(RawVisibilityId {
             number: index as u32,
         })
