@@ -14,7 +14,7 @@ use Rattle.items.specs.Written.{Visibility, in_module}
 use Rattle.items.specs.declared.ids.RawVisibilityId.{RawVisibilityId}
 use Rattle.items.specs.declared.visibility.RawVisibility.{RawVisibility}
 use Rattle.items.specs.declared.visibility.RawVisibility.TheVariants.{Module, PubSelf, PubCrate, Public}
-use Rattle.tree_tables.specs.Contents.{Contents, held_of}
+use Rattle.tree_tables.specs.Contents.{Shown, shown_of}
 use Rattle.tree_tables.specs.Growth.{Became, unchanged, add_path, add_visibility}
 use Rattle.tree_tables.specs.Numbers.{path_at, meant_visibility, meant_row, visibility_named}
 use Rattle.tree_tables.specs.declared.tree.TreeTables.{TreeTables}
@@ -24,24 +24,24 @@ pub became_none : (s : TreeTables) → Became s s unchanged
 unfolding Became
 became_none s = refl
 
-pub became_then : (s t u : TreeTables) (f g : Contents → Contents) → Became s t f → Became t u g → Became s u (λ c. g (f c))
+pub became_then : (s t u : TreeTables) (f g : Shown → Shown) → Became s t f → Became t u g → Became s u (λ c. g (f c))
 unfolding Became
 became_then s t u f g a b = b ∙ ap g a
 
-pub became_is : (s t : TreeTables) (f : Contents → Contents) → Became s t f → held_of t ≡ f (held_of s)
+pub became_is : (s t : TreeTables) (f : Shown → Shown) → Became s t f → shown_of t ≡ f (shown_of s)
 unfolding Became
 became_is s t f a = a
 
 -- ---- paths
-pub path-kept : (c : Contents) (path : Path) (id : PathId) (x : Path) → path_at c id ≡ Some x → path_at (add_path path c) id ≡ Some x
+pub path-kept : (c : Shown) (path : Path) (id : PathId) (x : Path) → path_at c id ≡ Some x → path_at (add_path path c) id ≡ Some x
 path-kept c path id x h = at-inserted same_path c.paths path id.number x h
 
-pub path_added : (c : Contents) (path : Path) (id : PathId) → id.number ≡ place same_path c.paths path → path_at (add_path path c) id ≡ Some path
+pub path_added : (c : Shown) (path : Path) (id : PathId) → id.number ≡ place same_path c.paths path → path_at (add_path path c) id ≡ Some path
 path_added c path id e = ap (at (inserted same_path c.paths path)) e ∙ at-placed same_path c.paths path path_equality.only
 
 -- equal paths have equal numbers
-pub path-number : (t : TreeTables) (a b : PathId) (x : Path) → path_at (held_of t) a ≡ Some x → path_at (held_of t) b ≡ Some x → a.number ≡ b.number
-path-number t a b x h k = number_unique same_path path_equivalence (held_of t).paths a.number b.number x x (paths-apart t.paths) h k (path_equality.itself x)
+pub path-number : (t : TreeTables) (a b : PathId) (x : Path) → path_at (shown_of t) a ≡ Some x → path_at (shown_of t) b ≡ Some x → a.number ≡ b.number
+path-number t a b x h k = number_unique same_path path_equivalence (shown_of t).paths a.number b.number x x (paths-apart t.paths) h k (path_equality.itself x)
 
 -- ---- visibilities
 four : {A : Type 0} (a b c d : Bool) (x y z w r : A) → a ≡ false → b ≡ false → c ≡ false → d ≡ false → cond a x (cond b y (cond c z (cond d w r))) ≡ r
@@ -62,7 +62,7 @@ row-visibility rows n h =
     (ne_eqb n 4294967295 (λ e. omega arith)) (ne_eqb n 4294967294 (λ e. omega arith)) (ne_eqb n 4294967293 (λ e. omega arith)) (ne_eqb n 4294967292 (λ e. omega arith))
 
 -- a recorded visibility has the meaning of its row
-pub visibility_added : (c : Contents) (visibility : RawVisibility) (id : RawVisibilityId) → id.number ≡ place same_visibility c.visibilities visibility → id.number < 128
+pub visibility_added : (c : Shown) (visibility : RawVisibility) (id : RawVisibilityId) → id.number ≡ place same_visibility c.visibilities visibility → id.number < 128
     → visibility_named (add_visibility visibility c) id ≡ meant_visibility (add_visibility visibility c) visibility
 visibility_added c visibility id e low =
     ap (meant_row (add_visibility visibility c))
@@ -70,7 +70,7 @@ visibility_added c visibility id e low =
     ∙ ap (at (inserted same_visibility c.visibilities visibility)) e
     ∙ at-placed same_visibility c.visibilities visibility visibility_equality.only)
 
-row_kept : (c d : Contents) (o p : Option RawVisibility) (v : Visibility) → ((x : RawVisibility) → o ≡ Some x → p ≡ Some x) → ((x : RawVisibility) → meant_visibility c x ≡ Some v → meant_visibility d x ≡ Some v)
+row_kept : (c d : Shown) (o p : Option RawVisibility) (v : Visibility) → ((x : RawVisibility) → o ≡ Some x → p ≡ Some x) → ((x : RawVisibility) → meant_visibility c x ≡ Some v → meant_visibility d x ≡ Some v)
     → meant_row c o ≡ Some v → meant_row d p ≡ Some v
 row_kept c d None p v f g h = let z : ◌≡◌ {A = ℕ} 0 1 = cc in absurd (omega arith)
 row_kept c d (Some x) p v f g h = ap (meant_row d) (f x refl) ∙ g x h
@@ -79,20 +79,20 @@ mapped_kept : {A B : Type 0} (m : A → B) (o p : Option A) (v : B) → ((x : A)
 mapped_kept m None p v f h = let z : ◌≡◌ {A = ℕ} 0 1 = cc in absurd (omega arith)
 mapped_kept m (Some x) p v f h = ap (option_map m) (f x refl) ∙ h
 
-meant-kept : (c d : Contents) (v : Visibility) → ((id : PathId) (x : Path) → path_at c id ≡ Some x → path_at d id ≡ Some x) → (x : RawVisibility) → meant_visibility c x ≡ Some v → meant_visibility d x ≡ Some v
+meant-kept : (c d : Shown) (v : Visibility) → ((id : PathId) (x : Path) → path_at c id ≡ Some x → path_at d id ≡ Some x) → (x : RawVisibility) → meant_visibility c x ≡ Some v → meant_visibility d x ≡ Some v
 meant-kept c d v f Public h = h
 meant-kept c d v f PubCrate h = h
 meant-kept c d v f (PubSelf word) h = h
 meant-kept c d v f (Module path word) h = mapped_kept in_module (path_at c path) (path_at d path) v (f path) h
 
 -- a number that names a visibility goes on naming it
-pub visibility-kept : (c : Contents) (visibility : RawVisibility) (id : RawVisibilityId) (v : Visibility) → visibility_named c id ≡ Some v → visibility_named (add_visibility visibility c) id ≡ Some v
+pub visibility-kept : (c : Shown) (visibility : RawVisibility) (id : RawVisibilityId) (v : Visibility) → visibility_named c id ≡ Some v → visibility_named (add_visibility visibility c) id ≡ Some v
 visibility-kept c visibility id v h =
     row_kept c (add_visibility visibility c) (visibility_at c.visibilities id.number) _ v
     (λ x. four_kept (eqb id.number 4294967295) (eqb id.number 4294967294) (eqb id.number 4294967293) (eqb id.number 4294967292) _ _ _ _ (at c.visibilities id.number) _ x (at-inserted same_visibility c.visibilities visibility id.number x))
     (meant-kept c (add_visibility visibility c) v (λ path x e. e)) h
 
-pub visibility-kept-path : (c : Contents) (path : Path) (id : RawVisibilityId) (v : Visibility) → visibility_named c id ≡ Some v → visibility_named (add_path path c) id ≡ Some v
+pub visibility-kept-path : (c : Shown) (path : Path) (id : RawVisibilityId) (v : Visibility) → visibility_named c id ≡ Some v → visibility_named (add_path path c) id ≡ Some v
 visibility-kept-path c path id v h =
     row_kept c (add_path path c) (visibility_at c.visibilities id.number) (visibility_at c.visibilities id.number) v (λ x e. e)
     (meant-kept c (add_path path c) v (λ at-id x e. path-kept c path at-id x e)) h

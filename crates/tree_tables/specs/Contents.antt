@@ -1,8 +1,10 @@
 -- What the tables of a tree hold, and would hold after going back.
 use Rattle.std.specs.Prelude.{List, [], None, Option}
 use Rattle.tables.specs.Held.{held, marked}
-use Rattle.paths.specs.Kept.{paths_in, marked_paths_in}
+use Rattle.paths.specs.Kept.{held_paths, marked_paths, paths_in}
 use Rattle.paths.specs.Spelling.{Path}
+use Rattle.paths.specs.declared.interned.InternedPath.{InternedPath}
+use Rattle.paths.specs.declared.name.Name.{Name}
 use Rattle.items.specs.declared.attrs.Attr.{Attr}
 use Rattle.items.specs.declared.attrs.AttrsOrCfg.{AttrsOrCfg}
 use Rattle.items.specs.declared.ids.ModItemId.{ModItemId}
@@ -13,7 +15,8 @@ use Rattle.items.specs.declared.use_tree.UseTree.{UseTree}
 use Rattle.items.specs.declared.visibility.RawVisibility.{RawVisibility}
 use Rattle.tree_tables.specs.declared.tree.TreeTables.{TreeTables}
 
-pub record Contents : Type 0 where
+-- the rows of each table, and the paths as P
+pub record ContentsBy (P : Type 0) : Type 0 where
   pub small : List SmallRow
   pub big : List BigRow
   pub ids : List ModItemId
@@ -23,7 +26,15 @@ pub record Contents : Type 0 where
   pub visibilities : List RawVisibility
   pub ctors : List RawVisibilityId
   pub uses : List UseTree
-  pub paths : List Path
+  pub paths : P
+
+-- paths as the rows of their two tables
+abbrev pub Contents : Type 0
+Contents = ContentsBy (List InternedPath × List Name)
+
+-- paths by their meaning
+abbrev pub Shown : Type 0
+Shown = ContentsBy (List Path)
 
 abbrev pub empty : Contents
 empty = record {
@@ -36,7 +47,7 @@ empty = record {
   visibilities = [];
   ctors = [];
   uses = [];
-  paths = [];
+  paths = ([], []);
 }
 
 abbrev pub held_of : TreeTables → Contents
@@ -50,7 +61,7 @@ held_of c = record {
   visibilities = held c.visibilities.rows;
   ctors = held c.ctors;
   uses = held c.uses;
-  paths = paths_in c.paths;
+  paths = held_paths c.paths;
 }
 
 unfoldable pub marked_of : TreeTables → Contents
@@ -64,5 +75,19 @@ marked_of c = record {
   visibilities = marked c.visibilities.rows;
   ctors = marked c.ctors;
   uses = marked c.uses;
-  paths = marked_paths_in c.paths;
+  paths = marked_paths c.paths;
+}
+
+abbrev pub shown_of : TreeTables → Shown
+shown_of c = record {
+  small = held c.small;
+  big = held c.big;
+  ids = held c.ids;
+  children = held c.children;
+  attrs = held c.attrs;
+  top = c.top;
+  visibilities = held c.visibilities.rows;
+  ctors = held c.ctors;
+  uses = held c.uses;
+  paths = paths_in c.paths;
 }

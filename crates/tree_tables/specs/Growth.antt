@@ -13,78 +13,78 @@ use Rattle.items.specs.declared.rows.SmallRow.{SmallRow}
 use Rattle.items.specs.declared.use_tree.UseTree.{UseTree}
 use Rattle.items.specs.declared.use_tree.UseTreeKind.{UseTreeKind}
 use Rattle.items.specs.declared.visibility.RawVisibility.{RawVisibility}
-use Rattle.tree_tables.specs.Contents.{Contents, held_of}
+use Rattle.tree_tables.specs.Contents.{ContentsBy, Shown, shown_of}
 use Rattle.tree_tables.specs.declared.tree.TreeTables.{TreeTables}
 
 -- what is held afterwards, from what was held before
-unfoldable pub Became : TreeTables → TreeTables → (Contents → Contents) → Type 0
-Became before after change = held_of after ≡ change (held_of before)
+unfoldable pub Became : TreeTables → TreeTables → (Shown → Shown) → Type 0
+Became before after change = shown_of after ≡ change (shown_of before)
 
-abbrev pub unchanged : Contents → Contents
+abbrev pub unchanged : Shown → Shown
 unchanged c = c
 
 -- ---- one table is another, and the rest stays
-abbrev pub with_small : List SmallRow → Contents → Contents
+abbrev pub with_small : {P : Type 0} → List SmallRow → ContentsBy P → ContentsBy P
 with_small rows c = record { small = rows; big = c.big; ids = c.ids; children = c.children; attrs = c.attrs; top = c.top; visibilities = c.visibilities; ctors = c.ctors; uses = c.uses; paths = c.paths }
 
-abbrev pub with_big : List BigRow → Contents → Contents
+abbrev pub with_big : {P : Type 0} → List BigRow → ContentsBy P → ContentsBy P
 with_big rows c = record { small = c.small; big = rows; ids = c.ids; children = c.children; attrs = c.attrs; top = c.top; visibilities = c.visibilities; ctors = c.ctors; uses = c.uses; paths = c.paths }
 
-abbrev pub with_ids : List ModItemId → Contents → Contents
+abbrev pub with_ids : {P : Type 0} → List ModItemId → ContentsBy P → ContentsBy P
 with_ids rows c = record { small = c.small; big = c.big; ids = rows; children = c.children; attrs = c.attrs; top = c.top; visibilities = c.visibilities; ctors = c.ctors; uses = c.uses; paths = c.paths }
 
-abbrev pub with_children : List ModItemId → Contents → Contents
+abbrev pub with_children : {P : Type 0} → List ModItemId → ContentsBy P → ContentsBy P
 with_children rows c = record { small = c.small; big = c.big; ids = c.ids; children = rows; attrs = c.attrs; top = c.top; visibilities = c.visibilities; ctors = c.ctors; uses = c.uses; paths = c.paths }
 
-abbrev pub with_attrs : List Attr → Contents → Contents
+abbrev pub with_attrs : {P : Type 0} → List Attr → ContentsBy P → ContentsBy P
 with_attrs rows c = record { small = c.small; big = c.big; ids = c.ids; children = c.children; attrs = rows; top = c.top; visibilities = c.visibilities; ctors = c.ctors; uses = c.uses; paths = c.paths }
 
-abbrev pub with_top : Option AttrsOrCfg → Contents → Contents
+abbrev pub with_top : {P : Type 0} → Option AttrsOrCfg → ContentsBy P → ContentsBy P
 with_top list c = record { small = c.small; big = c.big; ids = c.ids; children = c.children; attrs = c.attrs; top = list; visibilities = c.visibilities; ctors = c.ctors; uses = c.uses; paths = c.paths }
 
-abbrev pub with_visibilities : List RawVisibility → Contents → Contents
+abbrev pub with_visibilities : {P : Type 0} → List RawVisibility → ContentsBy P → ContentsBy P
 with_visibilities rows c = record { small = c.small; big = c.big; ids = c.ids; children = c.children; attrs = c.attrs; top = c.top; visibilities = rows; ctors = c.ctors; uses = c.uses; paths = c.paths }
 
-abbrev pub with_ctors : List RawVisibilityId → Contents → Contents
+abbrev pub with_ctors : {P : Type 0} → List RawVisibilityId → ContentsBy P → ContentsBy P
 with_ctors rows c = record { small = c.small; big = c.big; ids = c.ids; children = c.children; attrs = c.attrs; top = c.top; visibilities = c.visibilities; ctors = rows; uses = c.uses; paths = c.paths }
 
-abbrev pub with_uses : List UseTree → Contents → Contents
+abbrev pub with_uses : {P : Type 0} → List UseTree → ContentsBy P → ContentsBy P
 with_uses rows c = record { small = c.small; big = c.big; ids = c.ids; children = c.children; attrs = c.attrs; top = c.top; visibilities = c.visibilities; ctors = c.ctors; uses = rows; paths = c.paths }
 
-abbrev pub with_paths : List Path → Contents → Contents
+abbrev pub with_paths : {P : Type 0} → P → ContentsBy P → ContentsBy P
 with_paths rows c = record { small = c.small; big = c.big; ids = c.ids; children = c.children; attrs = c.attrs; top = c.top; visibilities = c.visibilities; ctors = c.ctors; uses = c.uses; paths = rows }
 
 -- ---- one row more
 -- a small record, with an even id
-abbrev pub add_small : SmallRow → Contents → Contents
+abbrev pub add_small : SmallRow → Shown → Shown
 add_small row c = with_ids (c.ids ++ record { index = 2 * length c.small } ∷ []) (with_small (c.small ++ row ∷ []) c)
 
 -- a big record, with an odd id
-abbrev pub add_big : BigRow → Contents → Contents
+abbrev pub add_big : BigRow → Shown → Shown
 add_big row c = with_ids (c.ids ++ record { index = 2 * length c.big + 1 } ∷ []) (with_big (c.big ++ row ∷ []) c)
 
-abbrev pub add_attr : Attr → Contents → Contents
+abbrev pub add_attr : Attr → Shown → Shown
 add_attr attr c = with_attrs (c.attrs ++ attr ∷ []) c
 
-abbrev pub add_ctor : RawVisibilityId → Contents → Contents
+abbrev pub add_ctor : RawVisibilityId → Shown → Shown
 add_ctor id c = with_ctors (c.ctors ++ id ∷ []) c
 
-abbrev pub add_use : UseTreeKind → Contents → Contents
+abbrev pub add_use : UseTreeKind → Shown → Shown
 add_use kind c = with_uses (c.uses ++ record { kind = kind } ∷ []) c
 
-abbrev pub replace_use : ℕ → UseTreeKind → Contents → Contents
+abbrev pub replace_use : ℕ → UseTreeKind → Shown → Shown
 replace_use place kind c = with_uses (slice_set c.uses place (record { kind = kind })) c
 
 -- unless an equal one is held
-abbrev pub add_path : Path → Contents → Contents
+abbrev pub add_path : Path → Shown → Shown
 add_path path c = with_paths (inserted same_path c.paths path) c
 
-abbrev pub add_visibility : RawVisibility → Contents → Contents
+abbrev pub add_visibility : RawVisibility → Shown → Shown
 add_visibility visibility c = with_visibilities (inserted same_visibility c.visibilities visibility) c
 
 -- ---- the ids from a place on become children
-abbrev pub copy_ids : ℕ → Contents → Contents
+abbrev pub copy_ids : ℕ → Shown → Shown
 copy_ids from c = with_children (c.children ++ drop from c.ids) c
 
-abbrev pub move_ids : ℕ → Contents → Contents
+abbrev pub move_ids : ℕ → Shown → Shown
 move_ids from c = with_ids (take from c.ids) (copy_ids from c)

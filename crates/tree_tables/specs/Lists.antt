@@ -7,7 +7,7 @@ use Rattle.items.specs.declared.attrs.Attr.{Attr}
 use Rattle.items.specs.declared.attrs.AttrsOrCfg.{AttrsOrCfg}
 use Rattle.items.specs.declared.attrs.AttrsOrCfg.TheVariants.{Enabled, CfgDisabled}
 use Rattle.items.specs.declared.attrs.AttrsOwned.{AttrsOwned}
-use Rattle.tree_tables.specs.Contents.{Contents, held_of}
+use Rattle.tree_tables.specs.Contents.{Shown, shown_of}
 use Rattle.tree_tables.specs.Growth.{Became, unchanged, with_attrs}
 use Rattle.tree_tables.specs.declared.tree.TreeTables.{TreeTables}
 
@@ -42,22 +42,22 @@ abbrev pub written : List Attr → AttrsOrCfg → AttrsOrCfg → List Attr
 written rows (Enabled a) second = copied rows a (part_of second)
 written rows (CfgDisabled cfg a) second = []
 
-abbrev pub add_attrs : List Attr → Contents → Contents
+abbrev pub add_attrs : List Attr → Shown → Shown
 add_attrs rows c = with_attrs (c.attrs ++ rows) c
 
 -- two parts become one, unless there is no room for the copy
 unfoldable pub Joins : AttrsOwned → AttrsOwned → TreeTables → TreeTables → Result AttrsOwned Refusal → Type 0
 Joins a b before after r =
-    let rows = (held_of before).attrs in
+    let rows = (shown_of before).attrs in
     MatchResult r
-    (λ list. (length rows + length (copied rows a b) ≤ 512) × Became before after (add_attrs (copied rows a b)) × Inside (held_of after).attrs list × (part (held_of after).attrs list ≡ part rows a ++ part rows b))
+    (λ list. (length rows + length (copied rows a b) ≤ 512) × Became before after (add_attrs (copied rows a b)) × Inside (shown_of after).attrs list × (part (shown_of after).attrs list ≡ part rows a ++ part rows b))
     (λ e. (e ≡ TableFull) × (512 < length rows + length (copied rows a b)) × Became before after unchanged)
 
 -- a list is put before another: refused with 8 exactly where one is no part of the table, and then with 6 exactly where there is no room
 unfoldable pub Merges : AttrsOrCfg → AttrsOrCfg → TreeTables → TreeTables → Result AttrsOrCfg Refusal → Type 0
 Merges first second before after r =
-    let rows = (held_of before).attrs in
+    let rows = (shown_of before).attrs in
     let Known : Type 0 = Inside rows (part_of first) × Inside rows (part_of second) in
     MatchResult r
-    (λ list. Known × (length rows + length (written rows first second) ≤ 512) × Became before after (add_attrs (written rows first second)) × Inside (held_of after).attrs (part_of list) × (list_in (held_of after).attrs list ≡ merged (list_in rows first) (list_in rows second)))
+    (λ list. Known × (length rows + length (written rows first second) ≤ 512) × Became before after (add_attrs (written rows first second)) × Inside (shown_of after).attrs (part_of list) × (list_in (shown_of after).attrs list ≡ merged (list_in rows first) (list_in rows second)))
     (λ e. (((e ≡ NotFound) × (Known → ⊥)) ⊎ ((e ≡ TableFull) × Known × (512 < length rows + length (written rows first second)))) × Became before after unchanged)

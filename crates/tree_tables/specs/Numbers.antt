@@ -9,21 +9,21 @@ use Rattle.items.specs.Written.{Visibility, everywhere, in_crate, in_self, in_mo
 use Rattle.items.specs.declared.ids.RawVisibilityId.{RawVisibilityId}
 use Rattle.items.specs.declared.visibility.RawVisibility.{RawVisibility}
 use Rattle.items.specs.declared.visibility.RawVisibility.TheVariants.{Module, PubSelf, PubCrate, Public}
-use Rattle.tree_tables.specs.Contents.{Contents}
+use Rattle.tree_tables.specs.Contents.{Shown}
 
-abbrev pub path_at : Contents → PathId → Option Path
+abbrev pub path_at : Shown → PathId → Option Path
 path_at c id = at c.paths id.number
 
 -- a recorded visibility by its meaning
-abbrev pub meant_visibility : Contents → RawVisibility → Option Visibility
+abbrev pub meant_visibility : Shown → RawVisibility → Option Visibility
 meant_visibility c Public = Some everywhere
 meant_visibility c PubCrate = Some in_crate
 meant_visibility c (PubSelf word) = Some (in_self word)
 meant_visibility c (Module path word) = option_map in_module (path_at c path)
 
-abbrev pub meant_row : Contents → Option RawVisibility → Option Visibility
+abbrev pub meant_row : Shown → Option RawVisibility → Option Visibility
 meant_row c None = None
 meant_row c (Some row) = meant_visibility c row
 
-abbrev pub visibility_named : Contents → RawVisibilityId → Option Visibility
+abbrev pub visibility_named : Shown → RawVisibilityId → Option Visibility
 visibility_named c id = meant_row c (visibility_at c.visibilities id.number)

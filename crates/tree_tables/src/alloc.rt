@@ -4,7 +4,7 @@ ghost use Rattle.syntax.specs.declared.refusal.Refusal.TheVariants.{TableFull};
 ghost use Rattle.tables.specs.Held.{held, marked};
 ghost use Rattle.paths.specs.Kept.{read_path};
 ghost use Rattle.tree_tables.specs.Added.{Allocated, Added, AddedAt, HandedOver, PathAdded, VisibilityAdded};
-ghost use Rattle.tree_tables.specs.Contents.{empty, held_of, marked_of};
+ghost use Rattle.tree_tables.specs.Contents.{empty, held_of, marked_of, shown_of};
 ghost use Rattle.tree_tables.specs.Growth.{Became, unchanged, with_top, add_small, add_big, add_attr, add_ctor, add_use, replace_use, copy_ids, move_ids};
 
 use crate::tree::TreeTables;
@@ -85,7 +85,7 @@ impl TreeTables {
     }
 
     pub fn alloc_small(&mut self, row: SmallRow) -> Result<(), Refusal>
-        ensures allocates { Allocated (length (held_of self.old).small) 512 (add_small row) self.old self.new result }
+        ensures allocates { Allocated (length (shown_of self.old).small) 512 (add_small row) self.old self.new result }
         ensures marked { marked_of self.new ≡ marked_of self.old }
     {
         let index = self.small.len() as u32;
@@ -96,7 +96,7 @@ impl TreeTables {
     }
 
     pub fn alloc_big(&mut self, row: BigRow) -> Result<(), Refusal>
-        ensures allocates { Allocated (length (held_of self.old).big) 256 (add_big row) self.old self.new result }
+        ensures allocates { Allocated (length (shown_of self.old).big) 256 (add_big row) self.old self.new result }
         ensures marked { marked_of self.new ≡ marked_of self.old }
     {
         let index = self.big.len() as u32;
@@ -143,7 +143,7 @@ impl TreeTables {
 
     // One visibility more in the last constructor's list.
     pub fn push_ctor(&mut self, id: RawVisibilityId) -> Result<(), Refusal>
-        ensures pushes { Added (length (held_of self.old).ctors) 256 (add_ctor id) self.old self.new result }
+        ensures pushes { Added (length (shown_of self.old).ctors) 256 (add_ctor id) self.old self.new result }
         ensures marked { marked_of self.new ≡ marked_of self.old }
     {
         let _ = self.ctors.push(id)?;
@@ -151,7 +151,7 @@ impl TreeTables {
     }
 
     pub fn push_attr(&mut self, attr: Attr) -> Result<(), Refusal>
-        ensures pushes { Added (length (held_of self.old).attrs) 512 (add_attr attr) self.old self.new result }
+        ensures pushes { Added (length (shown_of self.old).attrs) 512 (add_attr attr) self.old self.new result }
         ensures marked { marked_of self.new ≡ marked_of self.old }
     {
         let _ = self.attrs.push(attr)?;
@@ -160,7 +160,7 @@ impl TreeTables {
 
     // One use node more, and where it stands.
     pub fn push_use(&mut self, kind: UseTreeKind) -> Result<usize, Refusal>
-        ensures pushes { AddedAt (length (held_of self.old).uses) 1024 (add_use kind) self.old self.new result }
+        ensures pushes { AddedAt (length (shown_of self.old).uses) 1024 (add_use kind) self.old self.new result }
         ensures marked { marked_of self.new ≡ marked_of self.old }
     {
         self.uses.push(UseTree { kind })

@@ -1,6 +1,6 @@
 // Putting one attribute list before another.
 ghost use Rattle.std.specs.Prelude.{◌≡◌};
-ghost use Rattle.tree_tables.specs.Contents.{held_of, marked_of};
+ghost use Rattle.tree_tables.specs.Contents.{shown_of, marked_of};
 ghost use Rattle.tree_tables.specs.Lists.{Inside, Joins, Merges, part_of, with_part};
 
 use crate::tree::TreeTables;
@@ -47,8 +47,8 @@ impl TreeTables {
 
     // The same, of lists that are parts of the table.
     fn merge_known(&mut self, first: AttrsOrCfg, second: AttrsOrCfg) -> Result<AttrsOrCfg, Refusal>
-        requires first { Inside (held_of self.old).attrs (part_of first) }
-        requires second { Inside (held_of self.old).attrs (part_of second) }
+        requires first { Inside (shown_of self.old).attrs (part_of first) }
+        requires second { Inside (shown_of self.old).attrs (part_of second) }
         ensures merges { Merges first second self.old self.new result }
         ensures marked { marked_of self.new ≡ marked_of self.old }
     {
@@ -61,8 +61,8 @@ impl TreeTables {
 
     // The attributes of two lists as one: both are copied to the end of the table, unless one is empty.
     fn concat_attrs(&mut self, first: AttrsOwned, second: AttrsOwned) -> Result<AttrsOwned, Refusal>
-        requires first { Inside (held_of self.old).attrs first }
-        requires second { Inside (held_of self.old).attrs second }
+        requires first { Inside (shown_of self.old).attrs first }
+        requires second { Inside (shown_of self.old).attrs second }
         ensures joins { Joins first second self.old self.new result }
         ensures marked { marked_of self.new ≡ marked_of self.old }
     {

@@ -4,7 +4,7 @@ ghost use Rattle.syntax.specs.Meaning.{at};
 ghost use Rattle.syntax.specs.declared.refusal.Refusal.TheVariants.{NotFound as NothingThere};
 ghost use Rattle.paths.specs.Kept.{shown};
 ghost use Rattle.items.specs.Visible.{visibility_at};
-ghost use Rattle.tree_tables.specs.Contents.{held_of};
+ghost use Rattle.tree_tables.specs.Contents.{held_of, shown_of};
 ghost use Rattle.tree_tables.specs.Numbers.{path_at};
 ghost use Rattle.tree_tables.specs.Reading.{index_of, attrs_of};
 
@@ -138,7 +138,7 @@ impl TreeTables {
 
     // The path of a number: its kind, and how many names it has.
     pub fn path(&self, id: PathId) -> Result<InternedPath, Refusal>
-        ensures { MatchResult result (λ path. (path_at (held_of self.now) id ≡ Some (shown self.now.paths path)) × (path.count ≡ length (shown self.now.paths path).names)) (λ e. (e ≡ NothingThere) × (path_at (held_of self.now) id ≡ None)) }
+        ensures { MatchResult result (λ path. (path_at (shown_of self.now) id ≡ Some (shown self.now.paths path)) × (path.count ≡ length (shown self.now.paths path).names)) (λ e. (e ≡ NothingThere) × (path_at (shown_of self.now) id ≡ None)) }
     {
         let Some(path) = self.paths.get(id) else {
             return Err(Refusal::NotFound);

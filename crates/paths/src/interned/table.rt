@@ -200,6 +200,7 @@ impl Paths {
         ensures held { paths_in self.new ≡ marked_paths_in self.old }
         ensures marked { marked_paths_in self.new ≡ marked_paths_in self.old }
         ensures held_rows { held_paths self.new ≡ marked_paths self.old }
+        ensures marked_rows { marked_paths self.new ≡ marked_paths self.old }
     {
         self.parts.go_back();
         self.segments.go_back();

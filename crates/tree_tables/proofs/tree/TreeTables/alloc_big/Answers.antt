@@ -2,7 +2,7 @@ use Rattle.std.proofs.Common.{◌≡◌, ℕ, ◌+◌, ◌*◌, [], ◌∷◌, �
 use Rattle.std.proofs.lemmas.Result.{err_from_is_err_and}
 use Rattle.tables.specs.Held.{held}
 use Rattle.tree_tables.specs.Added.{Allocated}
-use Rattle.tree_tables.specs.Contents.{held_of, marked_of}
+use Rattle.tree_tables.specs.Contents.{shown_of, marked_of}
 use Rattle.tree_tables.specs.Growth.{Became, with_ids, with_big}
 use Rattle.tree_tables.proofs.tree.TreeTables.alloc_big.Goals as goal
 
@@ -18,7 +18,7 @@ returns c =
       allocates = (
         (let a = h.0 in let b = h.1 in omega arith),
         (let a = k.0 in let b = k.1 in omega arith),
-        λ i. with_ids (ids i) (with_big (h.2 i) (held_of s)),
+        λ i. with_ids (ids i) (with_big (h.2 i) (shown_of s)),
       );
       marked = λ i. with_ids (c.in_ok-push-2.ensures.marked i) (with_big (c.in_ok-push.ensures.marked i) (marked_of s));
     }

@@ -2,7 +2,7 @@ use Rattle.std.proofs.Common.{◌≡◌, ◌+◌, ◌-◌, ◌<◌, ◌≤◌, l
 use Rattle.std.proofs.lemmas.Result.{err_from_is_err_and}
 use Rattle.tables.specs.Held.{held}
 use Rattle.tree_tables.specs.Added.{HandedOver}
-use Rattle.tree_tables.specs.Contents.{held_of, marked_of}
+use Rattle.tree_tables.specs.Contents.{shown_of, marked_of}
 use Rattle.tree_tables.specs.Growth.{Became, with_children, with_ids}
 use Rattle.tree_tables.proofs.tree.TreeTables.alloc_children.Goals as goal
 
@@ -19,8 +19,8 @@ returns c =
     let count : c.saturating_sub-count.result ≡ length (held s.ids) - c.args.from = (let d = c.saturating_sub-count.ensures in omega arith) in
     let room : length (held s.children) + (length (held s.ids) - c.args.from) ≤ 768 = omega arith in
     record {
-      past = λ m. (first, count, room, λ i. with_ids (c.truncate.ensures.past m i) (with_children (h i) (held_of s)));
-      before = λ m. (first, count, room, λ i. with_ids (c.truncate.ensures.before m i) (with_children (h i) (held_of s)));
+      past = λ m. (first, count, room, λ i. with_ids (c.truncate.ensures.past m i) (with_children (h i) (shown_of s)));
+      before = λ m. (first, count, room, λ i. with_ids (c.truncate.ensures.before m i) (with_children (h i) (shown_of s)));
       marked = λ i. with_ids (c.truncate.ensures.marked i) (with_children (c.in_ok-copy_rows.ensures.marked i) (marked_of s));
     }
 

@@ -1,6 +1,6 @@
 use Rattle.std.proofs.Common.{◌≡◌, length, refl, ap, ◌∙◌, arith, length-append}
 use Rattle.tables.specs.Held.{held}
-use Rattle.tree_tables.specs.Contents.{Contents, held_of, marked_of}
+use Rattle.tree_tables.specs.Contents.{Shown, shown_of, marked_of}
 use Rattle.tree_tables.specs.Growth.{with_attrs}
 use Rattle.tree_tables.specs.Lists.{part}
 use Rattle.tree_tables.proofs.Parts.{length_part, joins_first, joins_second, joins_full, joins_both}
@@ -34,6 +34,6 @@ unfolding marked_of
 returns c =
     let t = c.args.self.now in
     record {
-      joins = joins_both t c.args.first c.args.second c.if-first-eq0.false c.if-second-eq0.false c.requires.first c.requires.second (held c.extend_from_within.new.self) _ (omega (arith, c.len-from.ensures.value)) c.extend_from_within.ensures.held (λ i. with_attrs (c.extend_from_within-2.ensures.held i) (held_of t)) _ c.len-from.ensures.value refl;
+      joins = joins_both t c.args.first c.args.second c.if-first-eq0.false c.if-second-eq0.false c.requires.first c.requires.second (held c.extend_from_within.new.self) _ (omega (arith, c.len-from.ensures.value)) c.extend_from_within.ensures.held (λ i. with_attrs (c.extend_from_within-2.ensures.held i) (shown_of t)) _ c.len-from.ensures.value refl;
       marked = λ i. with_attrs ((c.extend_from_within-2.ensures.marked ∙ c.extend_from_within.ensures.marked) i) (marked_of t);
     }
