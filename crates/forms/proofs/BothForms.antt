@@ -1,6 +1,6 @@
 -- Each lawful meaning has both forms.
 use Rattle.std.proofs.Common.{◌≡◌, ℕ, zero, suc, ◌+◌, ◌*◌, ◌^◌, ◌<◌, ◌≤◌, true, List, [], ◌∷◌, ◌++◌, length, get_or, take, drop, sym, refl, ap, ◌∙◌, append_assoc, le_of_suc-le-suc, not-suc-le-zero, arith, length-append}
-use Rattle.std.specs.List.{flat_map, AllByRecursion as All}
+use Rattle.std.specs.List.{flat_map, AllByRecursion}
 use Rattle.std.proofs.lemmas.List.{take_at, drop_at}
 use Rattle.std.proofs.ByRecursion.{All-append, All-from_get_or}
 use Rattle.syntax.proofs.Lawfulness.{law-stands}
@@ -41,15 +41,15 @@ length-spread at [] = refl
 length-spread at (t ∷ ts) = ap suc (length-spread (at + length t) ts)
 
 -- they are bytes, and not too many
-together-bytes : (ts : List (List ℕ)) → All (All Byte) ts → All Byte (together ts)
+together-bytes : (ts : List (List ℕ)) → AllByRecursion (AllByRecursion Byte) ts → AllByRecursion Byte (together ts)
 together-bytes [] p = tt
 together-bytes (t ∷ ts) p = All-append Byte t (together ts) p.0 (together-bytes ts p.1)
 
-together-few : (ts : List (List ℕ)) → All (λ t. length t ≤ 255) ts → length (together ts) ≤ 255 * length ts
+together-few : (ts : List (List ℕ)) → AllByRecursion (λ t. length t ≤ 255) ts → length (together ts) ≤ 255 * length ts
 together-few [] p = omega arith
 together-few (t ∷ ts) p = omega (arith, length-append t (together ts), p.0, together-few ts p.1)
 
-spread-words : (at : ℕ) (ts : List (List ℕ)) → at + length (together ts) < 2 ^ 32 → All Word (flat_map span_words (spread at ts))
+spread-words : (at : ℕ) (ts : List (List ℕ)) → at + length (together ts) < 2 ^ 32 → AllByRecursion Word (flat_map span_words (spread at ts))
 spread-words at [] p = tt
 spread-words at (t ∷ ts) p = (omega (arith, p), (omega (arith, p, length-append t (together ts)), spread-words (at + length t) ts (omega (arith, p, length-append t (together ts)))))
 
@@ -63,7 +63,7 @@ module _ (m : Meaning) (sized : Sized m) (law : lawful m ≡ true) where
   word-form : WordFormOf words (together m.texts) m
   word-form = record { spans = spans; same = refl; within = λ k less. omega (arith, spread-within 0 m.texts k less); texts = spread-spanned [] 0 m.texts refl }
 
-  words-fit : All Word words
+  words-fit : AllByRecursion Word words
   words-fit =
       let stands = law-stands m law in
       let short = All-from_get_or (λ t. length t ≤ 255) m.texts [] stands.texts.short in

@@ -1,6 +1,6 @@
 -- Two forms, one meaning.
 use Rattle.std.specs.Prelude.{◌≡◌, ℕ, ◌^◌, ◌<◌, true, List}
-use Rattle.std.specs.List.{AllByRecursion as All}
+use Rattle.std.specs.List.{AllByRecursion}
 use Rattle.syntax.specs.Law.{lawful}
 use Rattle.syntax.specs.Meaning.{Meaning}
 use Rattle.forms.specs.Form.{Narrow, form_fields, FormOf}
@@ -17,15 +17,15 @@ Word w = w < 2 ^ 32
 -- every number of m has 32 bits, and its texts are of bytes
 pub record Sized (m : Meaning) : Type 0 where
   pub numbers : Narrow (form_fields m)
-  pub bytes : All (All Byte) m.texts
+  pub bytes : AllByRecursion (AllByRecursion Byte) m.texts
 
 -- a packed form and a word form of m, which both open as m
 pub record BothForms (m : Meaning) : Type 0 where
   pub packed : List ℕ
   pub words : List ℕ
   pub bytes : List ℕ
-  pub are_bytes : All Byte packed × All Byte bytes
-  pub are_words : All Word words
+  pub are_bytes : AllByRecursion Byte packed × AllByRecursion Byte bytes
+  pub are_words : AllByRecursion Word words
   pub packed_opens : PackedOpens packed m
   pub words_open : WordOpens words bytes m
 

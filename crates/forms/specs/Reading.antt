@@ -1,5 +1,5 @@
 -- Things with fields, read from the front of bytes: one stands there, or why none does.
-use Rattle.std.specs.Prelude.{◌≡◌, ℕ, ◌<◌, ◌≤◌, ◌⊎◌, List, [], ◌∷◌, ◌++◌, length, take, drop}
+use Rattle.std.specs.Prelude.{◌≡◌, ℕ, ◌<◌, ◌≤◌, ◌⊎◌, List, ◌∷◌, ◌++◌, length, take, drop}
 use Rattle.std.specs.List.{flat_map}
 use Rattle.syntax.specs.Meaning.{Meaning}
 use Rattle.syntax.specs.declared.node.Node.{Node}

@@ -302,7 +302,7 @@ mod tests {
         assert_eq!(rt; source.open(&[1, 0]), Err(Refusal::Form));
         assert!(rt; source.node(3).is_some() && source.node(4).is_none());
         assert!(rt; source.text(0).is_none() && source.text(3).is_none());
-        assert_eq!(rt; source.text(2).ok_or("no text")?, b"f");
+        assert_eq!(rt; source.text(2).ok_or("no text")?, b"f".as_slice());
         Ok(())
     }
 
@@ -313,7 +313,7 @@ mod tests {
         assert_eq!(rt; source.open(&[1, 0], b""), Err(Refusal::Form));
         assert!(rt; source.node(3).is_some() && source.node(4).is_none());
         assert!(rt; source.text(0).is_none() && source.text(3).is_none());
-        assert_eq!(rt; source.text(2).ok_or("no text")?, b"f");
+        assert_eq!(rt; source.text(2).ok_or("no text")?, b"f".as_slice());
         Ok(())
     }
 }

@@ -5,7 +5,7 @@ use syntax::source::SyntaxSource;
 
 // How many nodes there are: by the law, the end of the first.
 pub fn node_count<S: SyntaxSource>(source: &S) -> u32
-    ensures { result ≡ length (meaning source.now).nodes }
+    ensures { result ≡ length (S.meaning source.now).nodes }
 {
     match source.node(0) {
         Some(root) => root.end,

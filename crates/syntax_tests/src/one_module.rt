@@ -77,7 +77,7 @@ mod tests {
         assert!(rt;
             module.node(2).is_none() && module.text(0).is_none() && module.text(2).is_none()
         );
-        assert_eq!(rt; module.text(1).ok_or("no text")?, b"net");
+        assert_eq!(rt; module.text(1).ok_or("no text")?, b"net".as_slice());
         Ok(())
     }
 }

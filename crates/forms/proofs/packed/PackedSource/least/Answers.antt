@@ -4,4 +4,9 @@ use Rattle.forms.proofs.packed.PackedSource.least.Goals as goal
 
 pub invariant_of-result : goal.invariant_of-result
 unfolding sound lawful_nodes lawful
-invariant_of-result c = ((omega arith, omega arith), ((refl, refl), ((λ k less. absurd (omega arith)), (refl, tt))))
+invariant_of-result c = record {
+  few = (omega arith, omega arith);
+  room = (refl, refl);
+  within = λ k less. absurd (omega arith);
+  ruled = refl;
+}

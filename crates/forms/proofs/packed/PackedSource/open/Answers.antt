@@ -25,16 +25,13 @@ invariant_of-self c =
     let read = c.in_ok-counts.ensures in
     let law = sym c.if-not-is_lawful.ensures in
     let node-room = c.read_form.auto.nodes in
-    let text-room = c.read_form.auto.texts in (
-      limits bytes nodes counts.nodes texts counts.texts law,
-      (
-        (node-room, text-room),
-        (
-          within (packed_exact bytes) bytes nodes counts.nodes texts counts.texts node-room text-room read law,
-          (ruled (packed_exact bytes) bytes nodes counts.nodes texts counts.texts node-room text-room read law, tt),
-        ),
-      ),
-    )
+    let text-room = c.read_form.auto.texts in
+    record {
+      few = limits bytes nodes counts.nodes texts counts.texts law;
+      room = (node-room, text-room);
+      within = within (packed_exact bytes) bytes nodes counts.nodes texts counts.texts node-room text-room read law;
+      ruled = ruled (packed_exact bytes) bytes nodes counts.nodes texts counts.texts node-room text-room read law;
+    }
 
 pub returns : goal.returns
 returns c =

@@ -4,4 +4,8 @@ use Rattle.forms.proofs.word.WordSource.least.Goals as goal
 
 pub invariant_of-result : goal.invariant_of-result
 unfolding sound lawful_nodes lawful
-invariant_of-result c = (refl, ((λ k less. absurd (omega arith)), (refl, tt)))
+invariant_of-result c = record {
+  whole = refl;
+  within = λ k less. absurd (omega arith);
+  ruled = refl;
+}

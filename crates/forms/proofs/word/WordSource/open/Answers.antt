@@ -22,7 +22,11 @@ invariant_of-self c =
     let counts = c.in_ok-counts.counts in
     let read = c.in_ok-counts.ensures in
     let law = law-read (word_exact words bytes) bytes c.read_words.new.nodes counts.nodes c.read_words.new.texts counts.texts c.read_words.auto.nodes c.read_words.auto.texts read (sym c.if-not-is_lawful.ensures) in
-    (word_whole words bytes read.meaning read.form, (word_within words bytes read.meaning read.form, (word_ruled words bytes read.meaning read.form law, tt)))
+    record {
+      whole = word_whole words bytes read.meaning read.form;
+      within = word_within words bytes read.meaning read.form;
+      ruled = word_ruled words bytes read.meaning read.form law;
+    }
 
 pub returns : goal.returns
 returns c =

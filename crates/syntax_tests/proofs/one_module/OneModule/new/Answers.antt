@@ -7,4 +7,4 @@ pub invariant_of-result : goal.invariant_of-result
 unfolding sound is_child lawful_nodes is_text lawful
 invariant_of-result c =
     let n = length c.args.name.now in
-    (rw (le-leb 1 n c.requires.0, le-leb n 255 c.requires.1) refl, tt)
+    record { ruled = rw (le-leb 1 n c.requires.0, le-leb n 255 c.requires.1) refl }
