@@ -1,5 +1,5 @@
 -- Paths that are found equal are equal.
-use Rattle.std.proofs.Common.{◌≡◌, ℕ, ◌+◌, true, false, eqb, List, [], ◌∷◌, refl, ap, ◌∙◌, arith}
+use Rattle.std.proofs.Common.{◌≡◌, true, List, [], ◌∷◌, refl, ap, ◌∙◌, arith}
 use Rattle.std.proofs.lemmas.Bool.{eqb-true, and_parts, false≢true}
 use Rattle.paths.specs.Spelling.{Path}
 use Rattle.paths.specs.declared.mod_path.PathKind.{PathKind}

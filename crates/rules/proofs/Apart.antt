@@ -1,6 +1,6 @@
 -- No two entries of a run's inventory have the same id.
-use Rattle.std.proofs.Common.{◌≡◌, ℕ, ◌+◌, ◌*◌, ◌<◌, ◌≤◌, Bool, true, false, cond, ◌||◌, eqb, ◌⊎◌, List, [], ◌∷◌, length, Some, None, Option, sym, refl, ap, ◌∙◌, subst, inl, inr, arith, eq-eqb}
-use Rattle.std.proofs.lemmas.Bool.{cases_Bool, eqb-true, or_cases, false≢true}
+use Rattle.std.proofs.Common.{◌≡◌, ℕ, ◌+◌, ◌<◌, ◌≤◌, Bool, true, false, cond, ◌||◌, eqb, ◌⊎◌, Some, None, Option, sym, refl, ap, ◌∙◌, subst, inl, inr, arith, eq-eqb}
+use Rattle.std.proofs.lemmas.Bool.{eqb-true, or_cases, false≢true}
 use Rattle.syntax.specs.Meaning.{Meaning}
 use Rattle.syntax.specs.Trees.{Siblings, none, node}
 use Rattle.syntax.specs.declared.walk.NodeRef.{NodeRef}
@@ -8,7 +8,7 @@ use Rattle.items.specs.Attributes.{attributes_of}
 use Rattle.rules.proofs.Ids.{counted}
 use Rattle.rules.specs.Entries.{Record, Size, small, big, size_of, id_of, record_of, has_items, Entry, Entries, empty, entry, ids, followed}
 use Rattle.rules.specs.Holding.{is_id}
-use Rattle.rules.specs.Inventory.{Counts, of_size, plus_one, plus, placed, entries_from, ids_given}
+use Rattle.rules.specs.Inventory.{Counts, of_size, plus_one, plus, placed, entries_from}
 
 same_id : (s t : Size) (k j : ℕ) → id_of s k ≡ id_of t j → (s ≡ t) × (k ≡ j)
 same_id small small k j e = (refl, omega arith)

@@ -1,5 +1,5 @@
 -- Each entry of a run is that of its node, and so is each struct's constructor.
-use Rattle.std.proofs.Common.{◌≡◌, ℕ, ◌+◌, ◌<◌, ◌≤◌, Bool, true, false, cond, eqb, List, [], ◌∷◌, length, get_or, Some, None, Option, sym, refl, ap, ◌∙◌, subst, inl, inr, arith}
+use Rattle.std.proofs.Common.{◌≡◌, ℕ, ◌+◌, ◌<◌, ◌≤◌, Bool, true, false, cond, eqb, List, length, get_or, Some, None, Option, sym, refl, ap, ◌∙◌, subst, inl, inr, arith}
 use Rattle.std.proofs.lemmas.Bool.{cases_Bool, eqb-true, false≢true}
 use Rattle.std.specs.Option.{option_map}
 use Rattle.syntax.proofs.Fronts.{at_in, at_some}
@@ -17,7 +17,6 @@ use Rattle.paths.specs.Names.{name_of}
 use Rattle.paths.specs.Reading.{path_of}
 use Rattle.paths.specs.declared.name.Name.{Name}
 use Rattle.items.specs.Written.{Visibility, visibility_of}
-use Rattle.items.specs.Attributes.{attributes_of}
 use Rattle.items.specs.declared.records.ExpandTo.{ExpandTo}
 use Rattle.rules.proofs.Held.{each_map}
 use Rattle.rules.proofs.Local.{split}
@@ -26,9 +25,9 @@ use Rattle.rules.proofs.RunSteps.{all-kept}
 use Rattle.rules.proofs.Seen.{struct_law}
 use Rattle.rules.specs.Consequences.{Described, EntriesStand, SeenAsWritten, StructSeen, ConstructorsHeld}
 use Rattle.rules.specs.Constructors.{Constructor, constructor_of}
-use Rattle.rules.specs.Entries.{Record, Struct, Union, Enum, Function, TypeAlias, Static, Const, Mod, Trait, Impl, Use, ExternCrate, MacroCall, MacroRules, Macro2, ExternBlock, size_of, id_of, used, called, expand_to, mod_kind, record_of, has_items, Entry, Entries, empty, entry, ids, followed}
+use Rattle.rules.specs.Entries.{Record, Struct, Union, Enum, Function, TypeAlias, Static, Const, Mod, Trait, Impl, Use, ExternCrate, MacroCall, MacroRules, Macro2, ExternBlock, size_of, used, called, expand_to, mod_kind, record_of, has_items, Entry, Entries, empty, entry, ids, followed}
 use Rattle.rules.specs.Holding.{Each}
-use Rattle.rules.specs.Inventory.{Counts, of_size, plus_one, plus, no_ids, placed, entries_from, alone, node_tree, below, root_items}
+use Rattle.rules.specs.Inventory.{Counts, plus_one, plus, no_ids, placed, entries_from, alone, below}
 use Rattle.rules.specs.Runs.{Call, root, item, Lowered, new, appended, after, lowered}
 use Rattle.rules.specs.Uses.{UseTrees, nothing, tree, alias_of, use_tree_of}
 

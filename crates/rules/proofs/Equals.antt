@@ -1,5 +1,5 @@
 -- Sources of equal meaning give equal results.
-use Rattle.std.proofs.Common.{◌≡◌, sym, refl, ap, subst}
+use Rattle.std.proofs.Common.{◌≡◌, sym, refl, subst}
 use Rattle.syntax.specs.Meaning.{Meaning}
 use Rattle.rules.proofs.Held.{holding_once}
 use Rattle.rules.specs.Agreement.{Alike, TreesAgree}

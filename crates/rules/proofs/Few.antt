@@ -1,5 +1,5 @@
 -- How many entries a call can bring.
-use Rattle.std.proofs.Common.{◌≡◌, ℕ, ◌+◌, ◌-◌, ◌<◌, ◌≤◌, Bool, true, false, cond, not, ◌||◌, ltb, leb, List, [], ◌∷◌, ◌++◌, length, get_or, take, drop, Some, None, Option, sym, refl, ap, ◌∙◌, subst, inl, inr, arith, length-append, length-drop, length-take}
+use Rattle.std.proofs.Common.{◌≡◌, ℕ, ◌+◌, ◌-◌, ◌<◌, ◌≤◌, Bool, true, false, cond, not, List, ◌++◌, length, get_or, take, drop, Some, None, Option, sym, refl, ap, ◌∙◌, subst, inl, inr, arith, length-append, length-drop, length-take}
 use Rattle.std.proofs.lemmas.Bool.{and_parts, leb-true, ltb-true, or_cases, false≢true}
 use Rattle.syntax.proofs.Fronts.{at_some}
 use Rattle.syntax.proofs.Grouping.{between_first, between_none, size-siblings}
@@ -7,7 +7,7 @@ use Rattle.syntax.proofs.Lawfulness.{law-stands}
 use Rattle.syntax.specs.Law.{lawful}
 use Rattle.syntax.specs.Meaning.{Meaning, node_at}
 use Rattle.syntax.specs.Refusals.{number_of}
-use Rattle.syntax.specs.Trees.{Siblings, none, node, size, siblings, between}
+use Rattle.syntax.specs.Trees.{Siblings, none, node, size, between}
 use Rattle.syntax.specs.declared.node.Node.{Node}
 use Rattle.syntax.specs.declared.refusal.Refusal.{Refusal}
 use Rattle.syntax.specs.declared.refusal.Refusal.TheVariants.{NotAnItem, NotFirst, TableFull, IndexTooLarge}
@@ -16,9 +16,9 @@ use Rattle.rules.proofs.Apart.{plus-followed}
 use Rattle.rules.proofs.Ids.{counted}
 use Rattle.rules.proofs.RunSteps.{limits_stand}
 use Rattle.rules.specs.Consequences.{IndexNever, OneItem}
-use Rattle.rules.specs.Entries.{Record, Size, small, big, size_of, id_of, record_of, has_items, Entries, empty, entry, ids, followed}
+use Rattle.rules.specs.Entries.{Record, Size, small, big, size_of, id_of, record_of, has_items, Entries, empty, ids, followed}
 use Rattle.rules.specs.Inventory.{Counts, of_size, plus_one, plus, no_ids, placed, entries_from, alone, node_tree, below, root_items, own, ids_given}
-use Rattle.rules.specs.Runs.{Call, root, item, Lowered, new, appended, after, not_an_item, not_first, index_too_large, table_full, refusal, lowered}
+use Rattle.rules.specs.Runs.{Call, root, item, Lowered, new, appended, after, not_an_item, not_first, index_too_large, table_full, lowered}
 
 own-few : (s t : Size) (n : ℕ) → length (own s t n) ≤ 1
 own-few small small n = omega arith

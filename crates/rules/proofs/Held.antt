@@ -1,13 +1,13 @@
 -- An inventory is held by the answers that are read from it, and by no others.
-use Rattle.std.proofs.Common.{◌≡◌, ℕ, ◌+◌, ◌*◌, ◌<◌, ◌≤◌, Bool, true, false, cond, not, ◌||◌, eqb, leb, ◌⊎◌, List, [], ◌∷◌, Some, None, Option, sym, refl, ap, ◌∙◌, subst, inl, inr, arith, eq-eqb}
+use Rattle.std.proofs.Common.{◌≡◌, ℕ, ◌<◌, ◌≤◌, Bool, true, false, not, ◌||◌, eqb, List, Some, None, sym, refl, ap, ◌∙◌, subst, inl, inr, arith, eq-eqb}
 use Rattle.std.proofs.lemmas.Bool.{cases_Bool, eqb-true, or_cases, and_parts, leb-true, false≢true}
 use Rattle.std.specs.Option.{option_map}
 use Rattle.syntax.specs.Meaning.{Meaning}
 use Rattle.items.specs.Attributes.{AttrList}
-use Rattle.rules.proofs.Apart.{Apart, Good, Among, followed_good, entries_good, or-first, or_second, own-id, is_false}
+use Rattle.rules.proofs.Apart.{Apart, Good, followed_good, entries_good, or-first, or_second, own-id, is_false}
 use Rattle.rules.proofs.RunSteps.{all-kept, limits_stand}
-use Rattle.rules.specs.Entries.{Size, small, big, id_of, Entry, Entries, empty, entry, ids}
-use Rattle.rules.specs.Holding.{Indexed, indexed, stored, Each, is_id, top_owner, Holds, or_else, find, index_in, list_in, attrs_in, HoldingStands, HoldingOnce}
+use Rattle.rules.specs.Entries.{Size, small, big, id_of, Entry, Entries, empty, entry}
+use Rattle.rules.specs.Holding.{indexed, stored, Each, is_id, top_owner, find, attrs_in, HoldingStands, HoldingOnce}
 use Rattle.rules.specs.Inventory.{Counts, of_size, plus, no_ids, node_tree, root_items}
 use Rattle.rules.specs.Runs.{Call, root, item, Lowered, new, appended, after, table_full, lowered}
 

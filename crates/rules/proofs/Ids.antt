@@ -1,12 +1,11 @@
 -- Ids are given in order, without a gap.
-use Rattle.std.proofs.Common.{◌≡◌, ℕ, zero, suc, ◌+◌, Bool, true, false, cond, List, [], ◌∷◌, ◌++◌, length, Some, None, Option, sym, refl, ap, ◌∙◌, add-zero, suc-add, zero-add, arith, length-append}
+use Rattle.std.proofs.Common.{◌≡◌, ℕ, zero, suc, ◌+◌, Bool, true, false, cond, List, ◌∷◌, ◌++◌, length, Some, None, Option, sym, refl, ap, ◌∙◌, add-zero, zero-add, arith, length-append}
 use Rattle.syntax.specs.Meaning.{Meaning}
 use Rattle.syntax.specs.Trees.{Siblings, none, node}
-use Rattle.syntax.specs.declared.node.Node.{Node}
 use Rattle.syntax.specs.declared.walk.NodeRef.{NodeRef}
 use Rattle.rules.specs.Entries.{Record, Size, small, big, size_of, id_of, record_of, has_items, Entries, empty, entry, ids}
 use Rattle.rules.specs.Inventory.{Counts, of_size, plus_one, plus, placed, entries_from, own, ids_given, ids_from}
-use Rattle.rules.specs.Consequences.{IdsInOrder, IdsStand}
+use Rattle.rules.specs.Consequences.{IdsStand}
 
 -- consecutive ids of a size
 abbrev pub Row : Size → ℕ → List ℕ → Type 0

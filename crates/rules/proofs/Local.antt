@@ -1,5 +1,5 @@
 -- The imports of a node depend on its part of the source alone.
-use Rattle.std.proofs.Common.{◌≡◌, ℕ, ◌+◌, ◌-◌, ◌<◌, ◌≤◌, Bool, true, false, cond, ◌⊎◌, List, [], ◌∷◌, length, get_or, take, drop, Some, None, Option, sym, refl, ap, ◌∙◌, subst, inl, inr, arith}
+use Rattle.std.proofs.Common.{◌≡◌, ℕ, ◌+◌, ◌-◌, ◌<◌, ◌≤◌, Bool, cond, List, length, get_or, take, drop, Some, None, Option, sym, refl, ap, ◌∙◌, subst, inl, inr, arith}
 use Rattle.std.proofs.lemmas.List.{take-take, drop-drop, drop-take}
 use Rattle.std.proofs.lemmas.Bool.{cases_Bool}
 use Rattle.std.specs.Option.{option_map}
@@ -7,7 +7,6 @@ use Rattle.syntax.proofs.Grouping.{between_any, between_first, between_none}
 use Rattle.syntax.proofs.Lawfulness.{law-stands}
 use Rattle.syntax.specs.Children.{numbered, children, first_of, child_of}
 use Rattle.syntax.specs.Meaning.{Meaning}
-use Rattle.syntax.specs.Standing.{Placed}
 use Rattle.syntax.specs.Table.{is}
 use Rattle.syntax.specs.Trees.{Siblings, none, node, Fill, siblings, between}
 use Rattle.syntax.specs.declared.kind.SyntaxKind.{SyntaxKind}
@@ -16,7 +15,7 @@ use Rattle.syntax.specs.declared.node.Node.{Node}
 use Rattle.syntax.specs.declared.walk.NodeRef.{NodeRef}
 use Rattle.paths.specs.Reading.{path_of}
 use Rattle.rules.specs.Imports.{imports, ImportsLocal}
-use Rattle.rules.specs.Uses.{UseTrees, use_path, path_in, lowered, use_node_of, use_trees, tree_at, use_tree_of}
+use Rattle.rules.specs.Uses.{use_path, path_in, use_node_of, use_trees, tree_at, use_tree_of}
 
 -- a part of a part
 part_of : (xs : List Node) (a b c d : ℕ) → a ≤ c → c ≤ d → d ≤ b → take (d - c) (drop (c - a) (take (b - a) (drop a xs))) ≡ take (d - c) (drop c xs)

@@ -1,12 +1,12 @@
 -- Places of leaves and imports, and the nodes that are lowered.
-use Rattle.std.proofs.Common.{◌≡◌, ℕ, ◌+◌, ◌<◌, ◌≤◌, List, [], ◌∷◌, ◌++◌, map, length, drop, Some, None, Option, sym, refl, ap, ◌∙◌, subst, append_assoc, add-zero, add_assoc, zero-add, arith, length-append}
+use Rattle.std.proofs.Common.{◌≡◌, ℕ, ◌+◌, ◌<◌, ◌≤◌, List, [], ◌∷◌, ◌++◌, map, length, drop, Some, None, Option, sym, refl, ap, ◌∙◌, append_assoc, arith, length-append}
 use Rattle.std.proofs.lemmas.List.{drop-drop, drop_at, map-append, append-nil}
 use Rattle.syntax.specs.Children.{child_of}
-use Rattle.syntax.specs.Meaning.{Meaning, at, first}
+use Rattle.syntax.specs.Meaning.{Meaning, at}
 use Rattle.syntax.specs.declared.kind.SyntaxKind.TheVariants.{UseTree}
 use Rattle.syntax.specs.Trees.{Siblings, none, node, between}
 use Rattle.syntax.specs.declared.walk.NodeRef.{NodeRef}
-use Rattle.paths.specs.Joining.{Prefix, none as no_prefix, Target}
+use Rattle.paths.specs.Joining.{none as no_prefix, Target}
 use Rattle.paths.specs.Spelling.{Path}
 use Rattle.rules.specs.Imports.{Leaf, leaves, joined, Import, target_of, import_at, imports_at}
 use Rattle.rules.specs.Consequences.{Rising, PlacesRise, AtPlaces, LeavesStand, NodesStand}

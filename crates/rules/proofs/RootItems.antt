@@ -1,12 +1,11 @@
 -- Root lowering brings what is brought item by item.
-use Rattle.std.proofs.Common.{◌≡◌, ℕ, ◌+◌, ◌<◌, ◌≤◌, Bool, true, false, cond, ◌&&◌, eqb, List, [], ◌∷◌, length, get_or, Some, None, Option, sym, refl, ap, ◌∙◌, subst, inl, inr, arith}
+use Rattle.std.proofs.Common.{◌≡◌, ℕ, ◌+◌, ◌<◌, ◌≤◌, Bool, true, false, cond, eqb, List, ◌∷◌, length, get_or, Some, None, Option, sym, refl, ap, ◌∙◌, subst, inl, inr, arith}
 use Rattle.std.proofs.lemmas.Bool.{cases_Bool, eqb-true, false≢true}
 use Rattle.syntax.proofs.Fronts.{at_in}
 use Rattle.syntax.proofs.Grouping.{between_any}
 use Rattle.syntax.proofs.Lawfulness.{law-stands}
 use Rattle.syntax.specs.Children.{numbered, children}
 use Rattle.syntax.specs.Kinds.{is_item}
-use Rattle.syntax.specs.Law.{lawful}
 use Rattle.syntax.specs.Meaning.{Meaning, node_at}
 use Rattle.syntax.specs.Trees.{Siblings, none, node, Fill, between}
 use Rattle.syntax.specs.declared.node.Node.{Node}
@@ -16,7 +15,7 @@ use Rattle.rules.proofs.Local.{split}
 use Rattle.rules.specs.Consequences.{item_numbers, one_by_one, RootIsItems}
 use Rattle.rules.specs.Entries.{Record, record_of, has_items, Entries, empty, entry, ids, followed}
 use Rattle.rules.specs.Inventory.{Counts, plus, no_ids, placed, entries_from, alone, node_tree, below, root_items}
-use Rattle.rules.specs.Runs.{root, item, appended}
+use Rattle.rules.specs.Runs.{item, appended}
 
 followed-empty : (es : Entries) → followed es empty ≡ es
 followed-empty empty = refl

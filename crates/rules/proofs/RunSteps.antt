@@ -1,12 +1,12 @@
 -- What every run keeps.
-use Rattle.std.proofs.Common.{◌≡◌, ℕ, ◌+◌, Bool, true, false, cond, List, [], ◌∷◌, ◌++◌, map, length, Some, None, Option, sym, refl, ap, ◌∙◌, subst, append_assoc, zero-add, arith}
+use Rattle.std.proofs.Common.{◌≡◌, ◌+◌, Bool, true, false, cond, List, [], ◌∷◌, ◌++◌, map, length, Some, None, Option, sym, refl, ap, ◌∙◌, subst, append_assoc, zero-add}
 use Rattle.syntax.specs.Meaning.{Meaning}
 use Rattle.syntax.specs.declared.refusal.Refusal.{Refusal}
 use Rattle.syntax.specs.declared.refusal.Refusal.TheVariants.{NotAnItem, NotFirst, TableFull, IndexTooLarge}
 use Rattle.rules.proofs.Ids.{Row, row-append, counted, entries-row}
 use Rattle.rules.specs.Entries.{Size, small, big, size_of, Entries, empty, entry, followed}
-use Rattle.rules.specs.Inventory.{Counts, of_size, plus, no_ids, node_tree, root_items, own, ids_given, ids_from}
-use Rattle.rules.specs.Runs.{Call, root, item, Answer, Lowered, new, appended, after, not_an_item, not_first, index_too_large, table_full, refusal, answer_if, tree_if, next, answers, lowered, inventory, is_refused}
+use Rattle.rules.specs.Inventory.{of_size, plus, no_ids, node_tree, root_items, own, ids_given, ids_from}
+use Rattle.rules.specs.Runs.{Call, root, item, Lowered, new, appended, after, not_an_item, not_first, index_too_large, table_full, refusal, answer_if, tree_if, next, answers, lowered, inventory, is_refused}
 use Rattle.rules.specs.Consequences.{InventoryStands, RunIdsStand, LimitsStand}
 
 -- what holds of a tree, and of it after an accepted call, holds after the call

@@ -4,9 +4,7 @@ use Rattle.syntax.specs.Meaning.{Meaning}
 use Rattle.syntax.specs.declared.walk.NodeRef.{NodeRef}
 use Rattle.items.specs.Attributes.{AttrList}
 use Rattle.rules.specs.Constructors.{constructor_of}
-use Rattle.rules.specs.Entries.{Entries}
 use Rattle.rules.specs.Holding.{Indexed, Holds}
-use Rattle.rules.specs.Imports.{imports_of}
 use Rattle.rules.specs.Printed.{printing, printed}
 use Rattle.rules.specs.Reading.{expanded, use_lowering}
 use Rattle.rules.specs.Runs.{Call, new, answers, lowered}

@@ -14,7 +14,7 @@ use Rattle.paths.specs.declared.name.Name.{Name}
 use Rattle.items.specs.Attributes.{attributes_of}
 use Rattle.items.specs.Written.{Visibility, visibility_of}
 use Rattle.rules.specs.Constructors.{Constructor, fields_of}
-use Rattle.rules.specs.Entries.{Record, Struct, Size, Entry, Entries, empty, ids, followed, record_of}
+use Rattle.rules.specs.Entries.{Struct, Size, Entry, Entries, empty, ids, followed, record_of}
 use Rattle.rules.specs.Equality.{has, distinct}
 use Rattle.rules.specs.Holding.{Each}
 use Rattle.rules.specs.Imports.{Leaf, leaves, Import, imports}

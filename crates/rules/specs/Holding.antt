@@ -1,5 +1,5 @@
 -- What it is for a tree that is read to hold an inventory.
-use Rattle.std.specs.Prelude.{◌≡◌, ℕ, Bool, true, false, cond, ◌||◌, List, [], ◌∷◌, Some, None, Option, ◌==◌}
+use Rattle.std.specs.Prelude.{◌≡◌, ℕ, Bool, false, cond, ◌||◌, List, [], ◌∷◌, Some, None, Option, ◌==◌}
 use Rattle.std.specs.Option.{option_map}
 use Rattle.syntax.specs.Meaning.{Meaning}
 use Rattle.items.specs.Attributes.{AttrList, enabled, disabled}

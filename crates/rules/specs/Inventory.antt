@@ -1,11 +1,11 @@
 -- The entries of items, and the ids that they get.
-use Rattle.std.specs.Prelude.{ℕ, zero, suc, ◌+◌, Bool, true, false, cond, List, [], ◌∷◌, ◌++◌, Some, None, Option}
+use Rattle.std.specs.Prelude.{ℕ, zero, suc, ◌+◌, cond, List, [], ◌∷◌, ◌++◌, Some, None, Option}
 use Rattle.syntax.specs.Meaning.{Meaning, node_at}
 use Rattle.syntax.specs.Trees.{Siblings, none, node, between}
 use Rattle.syntax.specs.declared.node.Node.{Node}
 use Rattle.syntax.specs.declared.walk.NodeRef.{NodeRef}
 use Rattle.items.specs.Attributes.{attributes_of}
-use Rattle.rules.specs.Entries.{Record, Size, small, big, size_of, id_of, record_of, has_items, Entry, Entries, empty, entry, ids}
+use Rattle.rules.specs.Entries.{Record, Size, small, big, size_of, id_of, record_of, has_items, Entries, empty, entry, ids}
 
 -- how many ids of each size
 pub record Counts : Type 0 where

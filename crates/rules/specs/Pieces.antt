@@ -1,5 +1,5 @@
 -- The pieces of a printed text, item by item.
-use Rattle.std.specs.Prelude.{ℕ, zero, suc, Bool, List, [], ◌∷◌, ◌++◌, replicate, Some, None, codes, decimal, Option}
+use Rattle.std.specs.Prelude.{ℕ, zero, suc, List, [], ◌∷◌, ◌++◌, replicate, Some, None, codes, decimal, Option}
 use Rattle.paths.specs.Spelling.{Path}
 use Rattle.paths.specs.declared.mod_path.PathKind.{PathKind}
 use Rattle.paths.specs.declared.mod_path.PathKind.TheVariants.{Plain, Super, Crate, Abs, DollarCrate}

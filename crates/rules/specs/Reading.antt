@@ -1,5 +1,5 @@
 -- What the calls besides lowering and printing answer.
-use Rattle.std.specs.Prelude.{ℕ, ◌+◌, Bool, cond, List, [], ◌∷◌, map, length, Some, None, Option, ◌==◌}
+use Rattle.std.specs.Prelude.{ℕ, ◌+◌, cond, List, [], ◌∷◌, map, length, Some, None, Option, ◌==◌}
 use Rattle.std.specs.Option.{option_map}
 use Rattle.syntax.specs.Meaning.{Meaning, at, node_at}
 use Rattle.syntax.specs.Table.{is}

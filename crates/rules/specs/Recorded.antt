@@ -9,9 +9,9 @@ use Rattle.paths.specs.Spelling.{Path}
 use Rattle.items.specs.Attributes.{Attribute, AttrList, enabled, disabled, attributes_of}
 use Rattle.items.specs.Written.{Visibility, everywhere, in_crate, in_self, in_module, visibility_of}
 use Rattle.rules.specs.Constructors.{Constructor, none as no_constructor, one, all}
-use Rattle.rules.specs.Entries.{Record, Struct, Union, Enum, Function, TypeAlias, Static, Const, Mod, Trait, Impl, Use, ExternCrate, MacroCall, MacroRules, Macro2, ExternBlock, Entries, record_of, has_items}
+use Rattle.rules.specs.Entries.{Record, Struct, Union, Enum, Function, TypeAlias, Static, Const, Mod, Trait, Impl, Use, ExternCrate, MacroCall, MacroRules, Macro2, ExternBlock, record_of, has_items}
 use Rattle.rules.specs.Equality.{distinct}
-use Rattle.rules.specs.Inventory.{Counts, plus, no_ids}
+use Rattle.rules.specs.Inventory.{Counts}
 use Rattle.rules.specs.Uses.{UseNode, single, glob, group, listed}
 
 -- what is recorded besides items
