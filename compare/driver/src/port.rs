@@ -16,7 +16,7 @@ mod c {
 
     unsafe extern "C" {
         pub fn giltnewt_open(bytes: *const u8, len: usize) -> u32;
-        pub fn giltnewt_dump(bytes: *const u8, len: usize, calls: *const u32, count: usize, text: *mut u8, room: usize) -> Answer;
+        pub fn giltnewt_dump_whole(bytes: *const u8, len: usize, calls: *const u32, count: usize, text: *mut u8, room: usize) -> Answer;
         pub fn giltnewt_print_calls(bytes: *const u8, len: usize, calls: *const u32, count: usize, text: *mut u8, room: usize) -> Answer;
         pub fn giltnewt_print(bytes: *const u8, len: usize, text: *mut u8, room: usize) -> Answer;
         pub fn giltnewt_open_often(bytes: *const u8, len: usize, rounds: u32) -> u32;
@@ -30,7 +30,7 @@ pub fn open(bytes: &[u8]) -> u32 {
 }
 
 pub fn dump(bytes: &[u8], calls: &[u32], text: &mut [u8]) -> Answer {
-    unsafe { c::giltnewt_dump(bytes.as_ptr(), bytes.len(), calls.as_ptr(), calls.len(), text.as_mut_ptr(), text.len()) }
+    unsafe { c::giltnewt_dump_whole(bytes.as_ptr(), bytes.len(), calls.as_ptr(), calls.len(), text.as_mut_ptr(), text.len()) }
 }
 
 pub fn print_calls(bytes: &[u8], calls: &[u32], text: &mut [u8]) -> Answer {

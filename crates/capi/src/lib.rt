@@ -1,7 +1,7 @@
 // Calls from C: each takes byte slices and keeps nothing between calls.
 #![tactic(auto)]
 
-use dump::run::{dump_packed, print_calls};
+use dump::run::{dump_packed, dump_whole, print_calls};
 use giltnewt::{
     Ctx, ItemTree, Needed, PackedSource, Refusal, SyntaxSource, print_item_tree, print_packed,
 };
@@ -38,6 +38,12 @@ pub extern "C" fn giltnewt_open(bytes: &[u8]) -> u32 {
 #[unsafe(no_mangle)]
 pub extern "C" fn giltnewt_dump(bytes: &[u8], calls: &[u32], text: &mut [u8]) -> Answer {
     answer_of(dump_packed(bytes, calls, text))
+}
+
+// The same, and what expanding, lowering use trees by themselves and merging answer.
+#[unsafe(no_mangle)]
+pub extern "C" fn giltnewt_dump_whole(bytes: &[u8], calls: &[u32], text: &mut [u8]) -> Answer {
+    answer_of(dump_whole(bytes, calls, text))
 }
 
 // Makes lowering calls and prints the tree.

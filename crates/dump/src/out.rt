@@ -3,13 +3,27 @@
 pub struct Out<'a> {
     buf: &'a mut [u8],
     len: usize,
+    extent: Extent,
+}
+
+// How much is written.
+#[derive(Clone, Copy)]
+pub(crate) enum Extent {
+    // what the tree holds
+    Tree,
+    // also what expanding, lowering use trees by themselves and merging answer
+    Whole,
 }
 
 static DIGITS: [u8; 16] = *b"0123456789abcdef";
 
 impl<'a> Out<'a> {
-    pub(crate) fn new(buf: &'a mut [u8]) -> Out<'a> {
-        Out { buf, len: 0 }
+    pub(crate) fn new(buf: &'a mut [u8], extent: Extent) -> Out<'a> {
+        Out {
+            buf,
+            len: 0,
+            extent,
+        }
     }
 }
 
@@ -17,6 +31,11 @@ impl Out<'_> {
     // How long the text is.
     pub(crate) fn len(&self) -> usize {
         self.len
+    }
+
+    // Whether more than the tree is written.
+    pub(crate) fn is_whole(&self) -> bool {
+        matches!(self.extent, Extent::Whole)
     }
 
     fn put(&mut self, byte: u8) {

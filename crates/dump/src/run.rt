@@ -1,7 +1,7 @@
 // Runs of lowering calls over a packed form.
 ghost use Rattle.std.specs.Prelude.{◌≡◌, ◌≤◌, length, MatchResult};
 
-use crate::out::Out;
+use crate::out::{Extent, Out};
 use forms::packed::PackedSource;
 use item_tree::lower::Ctx;
 use pretty::print::print_item_tree;
@@ -40,31 +40,51 @@ impl Out<'_> {
 }
 
 // Writes what finds room in `buf`, and answers how long the text is.
-fn dump_into(bytes: &[u8], calls: &[u32], buf: &mut [u8]) -> Result<usize, Refusal> {
+fn dump_into(
+    bytes: &[u8],
+    calls: &[u32],
+    extent: Extent,
+    buf: &mut [u8],
+) -> Result<usize, Refusal> {
     let mut source = PackedSource::least();
     source.open(bytes)?;
-    let mut out = Out::new(buf);
+    let mut out = Out::new(buf, extent);
     let mut ctx = Ctx::new();
     for call in calls {
         out.dump_call(&mut ctx, &source, *call);
     }
     let tree = ctx.finalize();
     out.dump_tree(&tree, &source)?;
-    out.dump_lowered_uses(&source)?;
-    out.dump_merges(&source)?;
+    if out.is_whole() {
+        out.dump_lowered_uses(&source)?;
+        out.dump_merges(&source)?;
+    }
     Ok(out.len())
+}
+
+fn dump_to(bytes: &[u8], calls: &[u32], extent: Extent, text: &mut [u8]) -> Result<usize, Refusal>
+    ensures { MatchResult result (λ len. len ≤ length text.old) (λ _. text.new ≡ text.old) }
+{
+    let needed = dump_into(bytes, calls, extent, &mut [])?;
+    if needed > text.len() {
+        return Err(Refusal::TooShort(Needed::Bytes(needed)));
+    }
+    let _ = dump_into(bytes, calls, extent, text);
+    Ok(needed)
 }
 
 // The answers of the calls and all that the finalized tree holds, from the front of `text`; answers the length.
 pub fn dump_packed(bytes: &[u8], calls: &[u32], text: &mut [u8]) -> Result<usize, Refusal>
     ensures { MatchResult result (λ len. len ≤ length text.old) (λ _. text.new ≡ text.old) }
 {
-    let needed = dump_into(bytes, calls, &mut [])?;
-    if needed > text.len() {
-        return Err(Refusal::TooShort(Needed::Bytes(needed)));
-    }
-    let _ = dump_into(bytes, calls, text);
-    Ok(needed)
+    dump_to(bytes, calls, Extent::Tree, text)
+}
+
+// The same with the imports of each use item, each use tree by itself, and the lists of neighbours merged.
+pub fn dump_whole(bytes: &[u8], calls: &[u32], text: &mut [u8]) -> Result<usize, Refusal>
+    ensures { MatchResult result (λ len. len ≤ length text.old) (λ _. text.new ≡ text.old) }
+{
+    dump_to(bytes, calls, Extent::Whole, text)
 }
 
 // Makes the calls, whatever they answer.

@@ -71,7 +71,9 @@ impl Out<'_> {
         self.say(b"\n");
         if let ModItem::Big(BigModItem::Use(it)) = item.item {
             self.dump_use_trees(tree.tables(), source, it.use_tree)?;
-            self.dump_imports(tree, source, id)?;
+            if self.is_whole() {
+                self.dump_imports(tree, source, id)?;
+            }
         }
         if let Some(attrs) = tree.attrs(id)? {
             self.dump_attrs(tree.tables(), source, attrs)?;
