@@ -1,5 +1,5 @@
 -- The laws of merging.
-use Rattle.std.proofs.Common.{◌≡◌, List, [], sym, refl, ap, append_assoc, append-nil}
+use Rattle.std.proofs.Common.{◌≡◌, [], refl, ap, append_assoc, append-nil}
 use Rattle.items.specs.Attributes.{AttrListOf, enabled, disabled, merged}
 use Rattle.items.specs.Merging.{MergingLaws}
 

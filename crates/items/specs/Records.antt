@@ -1,5 +1,5 @@
 -- Small facts about records.
-use Rattle.std.specs.Prelude.{ℕ, Bool, true, false, Some, None, Option, ◌==◌}
+use Rattle.std.specs.Prelude.{Bool, true, false, ◌==◌}
 use Rattle.items.specs.declared.attrs.AttrsOrCfg.{AttrsOrCfg}
 use Rattle.items.specs.declared.attrs.AttrsOrCfg.TheVariants.{Enabled, CfgDisabled}
 use Rattle.items.specs.declared.records.FieldsShape.{FieldsShape}

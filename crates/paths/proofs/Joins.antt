@@ -1,9 +1,9 @@
 -- The laws of joining.
-use Rattle.std.proofs.Common.{◌≡◌, ℕ, zero, suc, ◌+◌, ◌≤◌, true, false, List, [], ◌∷◌, ◌++◌, Some, None, Option, sym, refl, ap, ◌∙◌, arith}
-use Rattle.paths.specs.Joining.{Prefix, none, under, broken, Target, join, join_or, single_target, glob_target}
+use Rattle.std.proofs.Common.{◌≡◌, ℕ, zero, suc, ◌+◌, ◌≤◌, List, [], ◌∷◌, ◌++◌, Some, None, Option, sym, refl, ap, arith}
+use Rattle.paths.specs.Joining.{under, broken, Target, join, single_target}
 use Rattle.paths.specs.JoiningLaws.{Joinable, plain, supers, IsSelf, IsBare, JoiningLaws}
 use Rattle.paths.specs.Spelling.{Path}
-use Rattle.paths.specs.declared.join.ImportKind.TheVariants.{Single, TypeOnly, Glob}
+use Rattle.paths.specs.declared.join.ImportKind.TheVariants.{Single, TypeOnly}
 use Rattle.paths.specs.declared.mod_path.PathKind.{PathKind}
 use Rattle.paths.specs.declared.mod_path.PathKind.TheVariants.{Plain, Super, Crate, Abs, DollarCrate}
 use Rattle.paths.specs.declared.name.Name.{Name}

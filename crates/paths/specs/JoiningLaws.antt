@@ -1,9 +1,9 @@
 -- What joining comes to, case by case.
 use Rattle.std.specs.Prelude.{◌≡◌, ℕ, ◌+◌, ◌≤◌, [], ◌++◌, Some, None}
-use Rattle.paths.specs.Joining.{Prefix, none, under, broken, join, join_or, single_target, glob_target}
+use Rattle.paths.specs.Joining.{none, under, broken, join, single_target, glob_target}
 use Rattle.paths.specs.Spelling.{Path}
 use Rattle.paths.specs.declared.join.ImportKind.TheVariants.{Single, TypeOnly, Glob}
-use Rattle.paths.specs.declared.mod_path.PathKind.TheVariants.{Plain, Super, Crate, Abs, DollarCrate}
+use Rattle.paths.specs.declared.mod_path.PathKind.TheVariants.{Plain, Super, Abs}
 
 -- q is plain, or it and p are runs of `super` and p has no names
 pub data Joinable (p q : Path) : Type 0 where

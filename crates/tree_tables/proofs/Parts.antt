@@ -1,5 +1,5 @@
 -- Parts of the table of attributes, joined into one.
-use Rattle.std.proofs.Common.{◌≡◌, ℕ, ◌+◌, ◌<◌, ◌≤◌, Bool, true, false, cond, eqb, ◌⊎◌, List, [], ◌∷◌, ◌++◌, length, take, drop, Ok, Err, sym, refl, ap, ◌∙◌, subst, inl, inr, ⊎_elim, append_assoc, append-nil, arith, length-append, length-drop, length-take, take_all, eq-eqb, ne_eqb}
+use Rattle.std.proofs.Common.{◌≡◌, ℕ, ◌+◌, ◌<◌, ◌≤◌, Bool, true, false, cond, eqb, List, [], ◌++◌, length, take, drop, Ok, Err, sym, refl, ap, ◌∙◌, subst, inl, inr, append_assoc, append-nil, arith, length-append, length-drop, length-take, take_all, eq-eqb, ne_eqb}
 use lib.Seq.{take-append-le, drop-append-le, drop-append_seam}
 use Rattle.syntax.specs.declared.refusal.Refusal.{Refusal}
 use Rattle.syntax.specs.declared.refusal.Refusal.TheVariants.{TableFull, NotFound}
@@ -11,7 +11,7 @@ use Rattle.items.specs.declared.attrs.AttrsOrCfg.TheVariants.{Enabled, CfgDisabl
 use Rattle.items.specs.declared.attrs.CfgExpr.{CfgExpr}
 use Rattle.items.specs.declared.attrs.AttrsOwned.{AttrsOwned}
 use Rattle.tree_tables.specs.Contents.{Shown, shown_of}
-use Rattle.tree_tables.specs.Growth.{Became, unchanged, with_attrs}
+use Rattle.tree_tables.specs.Growth.{Became, with_attrs}
 use Rattle.tree_tables.specs.Lists.{part, list_in, part_of, with_part, Inside, copied, add_attrs, Joins, Merges}
 use Rattle.tree_tables.specs.declared.tree.TreeTables.{TreeTables}
 

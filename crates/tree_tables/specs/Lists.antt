@@ -1,5 +1,5 @@
 -- Attribute lists as parts of the table of attributes.
-use Rattle.std.specs.Prelude.{◌≡◌, ℕ, ◌+◌, ◌<◌, ◌≤◌, cond, ◌⊎◌, List, [], ◌++◌, length, take, drop, Result, MatchResult, ◌==◌}
+use Rattle.std.specs.Prelude.{◌≡◌, ◌+◌, ◌<◌, ◌≤◌, cond, ◌⊎◌, List, [], ◌++◌, length, take, drop, Result, MatchResult, ◌==◌}
 use Rattle.syntax.specs.declared.refusal.Refusal.{Refusal}
 use Rattle.syntax.specs.declared.refusal.Refusal.TheVariants.{TableFull, NotFound}
 use Rattle.items.specs.Attributes.{AttrListOf, enabled, disabled, merged}

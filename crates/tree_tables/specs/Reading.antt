@@ -1,5 +1,5 @@
 -- What an id names.
-use Rattle.std.specs.Prelude.{ℕ, ◌/◌, ◌%◌, cond, Some, Option, ◌==◌}
+use Rattle.std.specs.Prelude.{◌/◌, ◌%◌, cond, Some, Option, ◌==◌}
 use Rattle.std.specs.Option.{option_map}
 use Rattle.syntax.specs.Meaning.{at}
 use Rattle.items.specs.declared.attrs.AttrsOrCfg.{AttrsOrCfg}

@@ -1,4 +1,4 @@
-use Rattle.std.proofs.Common.{◌≡◌, ◌-◌, List, take, drop, ap, ◌∙◌, arith}
+use Rattle.std.proofs.Common.{List, take, drop, ap, ◌∙◌, arith}
 use Rattle.paths.proofs.Clipped.{clipped}
 use Rattle.paths.specs.declared.name.Name.{Name}
 use Rattle.paths.proofs.interned.Paths.names.Goals as goal

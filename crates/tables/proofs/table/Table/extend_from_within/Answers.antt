@@ -1,4 +1,4 @@
-use Rattle.std.proofs.Common.{◌≡◌, ◌+◌, ◌<◌, ◌≤◌, length, take, drop, sym, refl, ap, ◌∙◌, arith}
+use Rattle.std.proofs.Common.{◌<◌, ◌≤◌, length, take, drop, sym, refl, ap, ◌∙◌, arith}
 use Rattle.tables.proofs.Changes.{push_room}
 use Rattle.tables.proofs.Places.{at_none}
 use Rattle.tables.proofs.Pushing.{pushed_none, pushed_room, pushed_more, pushed_all, within-length, within-next}

@@ -1,6 +1,6 @@
-use Rattle.std.proofs.Common.{◌≡◌, length, refl, ap, ◌∙◌, arith, length-append}
+use Rattle.std.proofs.Common.{length, refl, ap, ◌∙◌, arith, length-append}
 use Rattle.tables.specs.Held.{held}
-use Rattle.tree_tables.specs.Contents.{Shown, shown_of, marked_of}
+use Rattle.tree_tables.specs.Contents.{shown_of, marked_of}
 use Rattle.tree_tables.specs.Growth.{with_attrs}
 use Rattle.tree_tables.specs.Lists.{part}
 use Rattle.tree_tables.proofs.Parts.{length_part, joins_first, joins_second, joins_full, joins_both}

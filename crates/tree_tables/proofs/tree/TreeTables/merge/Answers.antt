@@ -1,8 +1,6 @@
-use Rattle.std.proofs.Common.{◌≡◌, ◌+◌, ◌<◌, length, sym, refl, subst, arith}
-use Rattle.items.specs.declared.attrs.AttrsOwned.{AttrsOwned}
+use Rattle.std.proofs.Common.{sym, refl, subst, arith}
 use Rattle.tables.specs.Held.{held}
-use Rattle.tree_tables.specs.Contents.{shown_of}
-use Rattle.tree_tables.specs.Lists.{Inside, part_of}
+use Rattle.tree_tables.specs.Lists.{Inside}
 use Rattle.tree_tables.proofs.Parts.{merges_unknown}
 use Rattle.tree_tables.proofs.tree.TreeTables.merge.Goals as goal
 use Rattle.tree_tables.proofs.tree.TreeTables.merge.Goals.{then-before-len-via-then-before-len, then-before-len-via-else-before-len+then-after-len}

@@ -1,4 +1,3 @@
-use Rattle.std.proofs.Common.{◌<◌, IfOk}
 use Rattle.paths.proofs.Held.{inserted_below}
 use Rattle.paths.proofs.interned.table.PathsKeyTableModPath.append.Goals as goal
 
