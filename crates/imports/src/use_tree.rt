@@ -2,7 +2,7 @@
 ghost use Rattle.std.specs.Prelude.{◌≡◌, ◌≤◌, length, IfSome, MatchResult};
 
 use items::use_tree::{ImportAlias, UseTreeKind};
-use lower::use_tree::{MAX_USE_DEPTH, UseTreeMapping};
+use lower::use_tree::{MAX_USE_DEPTH, UseTreeMapping, lower_mapped_use_tree};
 use paths::interned::PathId;
 use paths::mod_path::ModPath;
 use syntax::kind::SyntaxKind;
@@ -106,7 +106,7 @@ pub fn lower_use_tree<S: SyntaxSource>(
     };
     let mut tables = TreeTables::new();
     let mut nodes: UseTreeMapping = Table::new(0);
-    lower::use_tree::lower_use_tree(&mut tables, &mut nodes, source, outermost, MAX_USE_DEPTH)?;
+    lower_mapped_use_tree(&mut tables, &mut nodes, source, outermost, MAX_USE_DEPTH)?;
     let count = tables.use_count();
     if count == 0 {
         return Ok(None);

@@ -2,7 +2,7 @@
 ghost use Rattle.std.specs.Prelude.{◌≡◌};
 ghost use Rattle.tree_tables.specs.Contents.{marked_of};
 
-use crate::use_tree::{MAX_USE_DEPTH, UseTreeMapping, alias_of, lower_use_tree};
+use crate::use_tree::{MAX_USE_DEPTH, alias_of, lower_use_tree};
 use crate::visibility::{lower_visibility, tuple_struct_ctor_vis};
 use items::ids::RawVisibilityId;
 use items::records::{
@@ -14,7 +14,6 @@ use syntax::kind::SyntaxKind;
 use syntax::refusal::Refusal;
 use syntax::source::SyntaxSource;
 use syntax::walk::{NodeRef, child_of_kind};
-use tables::table::Table;
 use tree_tables::tree::TreeTables;
 
 pub fn lower_struct<S: SyntaxSource>(
@@ -66,8 +65,7 @@ pub fn lower_use<S: SyntaxSource>(
         return Ok(None);
     };
     let first = tables.use_count();
-    let mut mapping: UseTreeMapping = Table::new(0);
-    lower_use_tree(tables, &mut mapping, source, tree, MAX_USE_DEPTH)?;
+    lower_use_tree(tables, source, tree, MAX_USE_DEPTH)?;
     let count = tables.use_count().saturating_sub(first);
     if count == 0 {
         return Ok(None);

@@ -142,9 +142,8 @@ fn lower_group(tables: &mut TreeTables, path: &UsePath) -> Result<Option<UseTree
     }
 }
 
-// Lowers a use node and then its members, unless it is passed over; `depth` levels may follow. The mapping
-// gets the number of each node that is lowered.
-pub fn lower_use_tree<S: SyntaxSource>(
+// The same as `lower_use_tree`; the mapping gets the number of each node that is lowered.
+pub fn lower_mapped_use_tree<S: SyntaxSource>(
     tables: &mut TreeTables,
     mapping: &mut UseTreeMapping,
     source: &S,
@@ -164,7 +163,7 @@ pub fn lower_use_tree<S: SyntaxSource>(
     let mut at = tree.first_child();
     while let Some(child) = sibling_at(source, at, tree.node.end) {
         if child.node.kind == SyntaxKind::UseTree.number() && depth > 0 {
-            lower_use_tree(tables, mapping, source, child, depth - 1)?;
+            lower_mapped_use_tree(tables, mapping, source, child, depth - 1)?;
         }
         at = child.node.end;
     }
@@ -172,4 +171,17 @@ pub fn lower_use_tree<S: SyntaxSource>(
     let kind = UseTreeKind::Prefixed { prefix, end };
     tables.replace_use(place, kind);
     Ok(())
+}
+
+// Lowers a use node and then its members, unless it is passed over; `depth` levels may follow.
+pub fn lower_use_tree<S: SyntaxSource>(
+    tables: &mut TreeTables,
+    source: &S,
+    tree: NodeRef,
+    depth: u32,
+) -> Result<(), Refusal>
+    ensures { marked_of tables.new ≡ marked_of tables.old }
+{
+    let mut mapping: UseTreeMapping = Table::new(0);
+    lower_mapped_use_tree(tables, &mut mapping, source, tree, depth)
 }
