@@ -1,7 +1,7 @@
 // All that a tree holds, written out by meaning.
 #![tactic(auto)]
 
-pub mod imports;
+pub mod import_list;
 pub mod merges;
 pub mod out;
 pub mod parts;

@@ -3,7 +3,7 @@ ghost use Rattle.std.specs.Prelude.{◌≡◌, ◌≤◌, length, MatchResult};
 
 use crate::out::{Extent, Out};
 use forms::packed::PackedSource;
-use item_tree::lower::Ctx;
+use item_tree::lowering::Ctx;
 use pretty::print::print_item_tree;
 use syntax::refusal::{Needed, Refusal};
 use syntax::source::SyntaxSource;

@@ -10,7 +10,7 @@ pub use syntax::node::Node;
 pub use syntax::source::SyntaxSource;
 
 // lowering it, and reading the tree
-pub use item_tree::lower::Ctx;
+pub use item_tree::lowering::Ctx;
 pub use item_tree::tree::ItemTree;
 pub use items::attrs::AttrsOrCfg;
 pub use items::ids::{FileAstId, ModItemId};

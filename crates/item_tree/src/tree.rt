@@ -4,7 +4,7 @@ ghost use Rattle.syntax.specs.declared.refusal.Refusal.TheVariants.{NotFound as 
 ghost use Rattle.tree_tables.specs.Contents.{held_of};
 ghost use Rattle.tree_tables.specs.Reading.{index_of, attrs_of};
 
-use crate::lower::Ctx;
+use crate::lowering::Ctx;
 use imports::expand::expand;
 use imports::import::Import;
 use imports::lists::Lengths;

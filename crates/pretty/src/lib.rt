@@ -1,5 +1,5 @@
 // The printed text of an item tree.
 #![tactic(auto)]
 
-pub mod items;
+pub mod mod_items;
 pub mod print;

@@ -1,7 +1,7 @@
 // The text of a whole tree.
 ghost use Rattle.std.specs.Prelude.{◌≡◌, ◌<◌, ◌≤◌, length, MatchResult};
 
-use crate::items::print_mod_item;
+use crate::mod_items::print_mod_item;
 use item_tree::tree::ItemTree;
 use page::indent::Indent;
 use page::out::Out;

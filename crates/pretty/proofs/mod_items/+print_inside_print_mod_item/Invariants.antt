@@ -1,5 +1,5 @@
 use Rattle.std.proofs.Common.{◌≡◌, ◌+◌, ◌*◌}
-use Rattle.pretty.proofs.items.+print_inside_print_mod_item.Given as goal
+use Rattle.pretty.proofs.mod_items.+print_inside_print_mod_item.Given as goal
 
 abbrev pub decreases-print_inside : goal.decreases-print_inside
 decreases-print_inside g l = 2 * l.depth

@@ -1,6 +1,6 @@
 use Rattle.std.proofs.Common.{◌≡◌, ◌+◌, ◌-◌, ◌*◌, ◌≤◌}
 use Rattle.tree_tables.specs.Contents.{marked_of}
-use Rattle.item_tree.proofs.lower.walk.lower_items.Given as goal
+use Rattle.item_tree.proofs.lowering.walk.lower_items.Given as goal
 
 abbrev pub invariant-loop-item : goal.invariant-loop-item
 invariant-loop-item g l = (l.depth ≤ 40) × (marked_of l.tree ≡ marked_of l.initial.tree)

@@ -3,8 +3,8 @@ ghost use Rattle.std.specs.Prelude.{◌≡◌, true, false, length, MatchResult}
 ghost use Rattle.syntax.specs.declared.refusal.Refusal.TheVariants.{NotFirst as TooLate};
 ghost use Rattle.tree_tables.specs.Contents.{empty, held_of, marked_of};
 
-use crate::lower::Ctx;
-use crate::lower::walk::lower_items;
+use crate::lowering::Ctx;
+use crate::lowering::walk::lower_items;
 use items::attrs::AttrsOrCfg;
 use items::ids::ModItemId;
 use lower::attrs::lower_attrs;
