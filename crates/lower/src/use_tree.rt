@@ -182,6 +182,22 @@ pub fn lower_use_tree<S: SyntaxSource>(
 ) -> Result<(), Refusal>
     ensures { marked_of tables.new ≡ marked_of tables.old }
 {
-    let mut mapping: UseTreeMapping = Table::new(0);
-    lower_mapped_use_tree(tables, &mut mapping, source, tree, depth)
+    let Some(kind) = lower_use_kind(tables, source, tree)? else {
+        return Ok(());
+    };
+    let place = tables.push_use(kind)?;
+    let UseTreeKind::Prefixed { prefix, .. } = kind else {
+        return Ok(());
+    };
+    let mut at = tree.first_child();
+    while let Some(child) = sibling_at(source, at, tree.node.end) {
+        if child.node.kind == SyntaxKind::UseTree.number() && depth > 0 {
+            lower_use_tree(tables, source, child, depth - 1)?;
+        }
+        at = child.node.end;
+    }
+    let end = tables.use_count() as u32;
+    let kind = UseTreeKind::Prefixed { prefix, end };
+    tables.replace_use(place, kind);
+    Ok(())
 }

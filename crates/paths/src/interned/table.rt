@@ -1,5 +1,5 @@
 // Finding and adding paths.
-ghost use Rattle.std.specs.Prelude.{◌≡◌, ◌+◌, ◌<◌, ◌≤◌, true, false, [], ◌++◌, length, IfOk, IfSome, ◌≢◌};
+ghost use Rattle.std.specs.Prelude.{◌≡◌, ◌+◌, ◌<◌, ◌≤◌, true, false, [], ◌++◌, length, IfOk, IfSome, IsOk, ◌≢◌};
 ghost use Rattle.std.specs.Option.{option_map};
 ghost use Rattle.syntax.specs.Meaning.{at};
 ghost use Rattle.tables.specs.Held.{held, marked};
@@ -99,7 +99,7 @@ impl KeySet<ModPath> for Paths {
             count: count as u32,
         };
         let index = self.parts.push(part)?;
-        push_names(&mut self.segments, key);
+        push_names(&mut self.segments, key)?;
         Ok(index)
     }
 }
@@ -123,17 +123,17 @@ impl KeyTable<ModPath> for Paths {
     }
 }
 
-// Appends the names of a path, for which there is room.
-fn push_names(segments: &mut Table<Name, 2048>, path: &ModPath)
-    requires { length (held segments.old) + length (names_of path.now) ≤ 2048 }
-    ensures held { held segments.new ≡ held segments.old ++ names_of path.now }
+// Appends the names of a path.
+fn push_names(segments: &mut Table<Name, 2048>, path: &ModPath) -> Result<(), Refusal>
+    ensures held { length (held segments.old) + length (names_of path.now) ≤ 2048 → IsOk result × (held segments.new ≡ held segments.old ++ names_of path.now) }
     ensures marked { marked segments.new ≡ marked segments.old }
 {
     for k in 0..path.len() {
         if let Some(name) = path.segment(k) {
-            let _ = segments.push(name);
+            let _ = segments.push(name)?;
         }
     }
+    Ok(())
 }
 
 impl Paths {
