@@ -1,5 +1,6 @@
 // The imports of a use item.
-use crate::out::Out;
+use crate::dumper::Dumper;
+use crate::parts::Dump;
 use imports::import::{Import, ImportPath};
 use item_tree::tree::ItemTree;
 use items::ids::ModItemId;
@@ -9,6 +10,7 @@ use paths::name::Name;
 use syntax::refusal::{Needed, Refusal};
 use syntax::source::SyntaxSource;
 
+// No heap: the imports and their names go to arrays.
 const MAX_IMPORTS: usize = 1_024;
 
 // Imports with more names together are written as their number only.
@@ -25,62 +27,39 @@ const NO_IMPORT: Import = Import {
     place: 0,
 };
 
-impl Out<'_> {
-    pub(crate) fn dump_imports<S: SyntaxSource>(
-        &mut self,
-        tree: &ItemTree,
-        source: &S,
-        id: ModItemId,
-    ) -> Result<(), Refusal> {
+impl<S: SyntaxSource> Dumper<'_, '_, '_, '_, S> {
+    pub(crate) fn dump_imports(&mut self, tree: &ItemTree, id: ModItemId) -> Result<(), Refusal> {
         let mut imports = [NO_IMPORT; MAX_IMPORTS];
         let mut names = [Name::Missing; MAX_NAMES];
         match tree.expand(id, &mut imports, &mut names) {
-            Ok(lengths) => {
-                let count = lengths.imports;
-                self.dump_import_list(source, &imports[0..count], &names)
-            }
+            Ok(lengths) => self.dump_import_list(&imports[0..lengths.imports], &names),
             Err(Refusal::TooShort(Needed::Imports { imports, names })) => {
-                self.say(b"imports ");
-                self.long_number(imports);
-                self.say(b" names ");
-                self.long_number(names);
-                self.say(b"\n");
+                self.say(format_args!("imports {imports} names {names}\n"));
                 Ok(())
             }
             Err(refusal) => Err(refusal),
         }
     }
 
-    fn dump_import_list<S: SyntaxSource>(
-        &mut self,
-        source: &S,
-        imports: &[Import],
-        names: &[Name],
-    ) -> Result<(), Refusal> {
+    fn dump_import_list(&mut self, imports: &[Import], names: &[Name]) -> Result<(), Refusal> {
         for import in imports {
-            self.dump_import(source, *import, names)?;
+            self.dump_import(*import, names)?;
         }
         Ok(())
     }
 
-    fn dump_import<S: SyntaxSource>(
-        &mut self,
-        source: &S,
-        import: Import,
-        names: &[Name],
-    ) -> Result<(), Refusal> {
-        self.say(b"import ");
-        self.number(import.place);
-        match import.kind {
-            ImportKind::Single => self.say(b" single"),
-            ImportKind::TypeOnly => self.say(b" type-only"),
-            ImportKind::Glob => self.say(b" glob"),
-        }
+    fn dump_import(&mut self, import: Import, names: &[Name]) -> Result<(), Refusal> {
+        let kind = match import.kind {
+            ImportKind::Single => "single",
+            ImportKind::TypeOnly => "type-only",
+            ImportKind::Glob => "glob",
+        };
+        self.say(format_args!("import {} {kind}", import.place));
         let first = import.path.first.min(names.len());
         let end = first.saturating_add(import.path.count).min(names.len());
-        self.dump_path_of(source, import.path.kind, &names[first..end])?;
-        self.dump_alias(source, import.alias)?;
-        self.say(b"\n");
+        self.dump_path(import.path.kind, &names[first..end])?;
+        import.alias.dump_to(self)?;
+        self.say("\n");
         Ok(())
     }
 }

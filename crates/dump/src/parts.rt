@@ -1,214 +1,169 @@
 // Names, paths, visibilities, attributes: each begins with a space.
-use crate::out::Out;
-use items::attrs::{Attr, AttrInput, AttrsOrCfg, AttrsOwned};
+use crate::dumper::Dumper;
+use items::attrs::{Attr, AttrInput, AttrsOrCfg};
 use items::ids::RawVisibilityId;
 use items::records::ItemIds;
 use items::use_tree::ImportAlias;
 use items::visibility::{RawVisibility, VisibilityExplicitness};
 use paths::interned::PathId;
-use paths::mod_path::PathKind;
+use paths::mod_path::{ModPath, PathKind};
 use paths::name::Name;
+use std::fmt;
+use std::fmt::Write;
 use syntax::refusal::Refusal;
 use syntax::source::SyntaxSource;
-use tree_tables::tree::TreeTables;
 
-impl Out<'_> {
-    fn dump_text<S: SyntaxSource>(&mut self, source: &S, number: u32) -> Result<(), Refusal> {
-        let Some(text) = source.text(number) else {
-            return Err(Refusal::MissingText);
-        };
-        self.quoted(text);
+// A text of a source between quotes: a byte that does not print stands as a backslash and two digits.
+#[derive(Clone, Copy)]
+struct Quoted<'a>(&'a [u8]);
+
+impl fmt::Display for Quoted<'_> {
+    fn fmt<W: fmt::Write>(&self, f: &mut fmt::Formatter<W>) -> fmt::Result {
+        f.write_char('"')?;
+        for byte in self.0 {
+            match *byte {
+                0..32 | b'"' | b'\\' | 127.. => write!(f, "\\{byte:02x}")?,
+                byte => f.write_char(char::from(byte))?,
+            }
+        }
+        f.write_char('"')
+    }
+}
+
+// What a record is made of.
+pub(crate) trait Dump<S: SyntaxSource> {
+    fn dump_to(self, dumper: &mut Dumper<'_, '_, '_, '_, S>) -> Result<(), Refusal>;
+}
+
+impl<S: SyntaxSource, D: Dump<S> + Drop> Dump<S> for Option<D> {
+    fn dump_to(self, dumper: &mut Dumper<'_, '_, '_, '_, S>) -> Result<(), Refusal> {
+        match self {
+            Some(part) => part.dump_to(dumper),
+            None => Ok(dumper.say(" -")),
+        }
+    }
+}
+
+impl<S: SyntaxSource> Dump<S> for Name {
+    fn dump_to(self, dumper: &mut Dumper<'_, '_, '_, '_, S>) -> Result<(), Refusal> {
+        match self {
+            Name::Text(number) => dumper.dump_text(" ", number),
+            Name::Missing => Ok(dumper.say(" [missing name]")),
+        }
+    }
+}
+
+impl<S: SyntaxSource> Dump<S> for PathId {
+    fn dump_to(self, dumper: &mut Dumper<'_, '_, '_, '_, S>) -> Result<(), Refusal> {
+        let tables = dumper.tables;
+        let path = tables.path(self)?;
+        dumper.dump_path(path.kind(), tables.names(path))
+    }
+}
+
+impl<S: SyntaxSource> Dump<S> for ModPath {
+    fn dump_to(self, dumper: &mut Dumper<'_, '_, '_, '_, S>) -> Result<(), Refusal> {
+        dumper.dump_path(self.kind(), self.names())
+    }
+}
+
+impl<S: SyntaxSource> Dump<S> for ImportAlias {
+    fn dump_to(self, dumper: &mut Dumper<'_, '_, '_, '_, S>) -> Result<(), Refusal> {
+        dumper.say(" as");
+        match self {
+            ImportAlias::Underscore => Ok(dumper.say(" _")),
+            ImportAlias::Alias(name) => name.dump_to(dumper),
+        }
+    }
+}
+
+impl<S: SyntaxSource> Dump<S> for RawVisibility {
+    fn dump_to(self, dumper: &mut Dumper<'_, '_, '_, '_, S>) -> Result<(), Refusal> {
+        match self {
+            RawVisibility::Public => Ok(dumper.say(" public")),
+            RawVisibility::PubCrate => Ok(dumper.say(" crate")),
+            RawVisibility::PubSelf(VisibilityExplicitness::Explicit) => Ok(dumper.say(" self")),
+            RawVisibility::PubSelf(VisibilityExplicitness::Implicit) => Ok(dumper.say(" private")),
+            RawVisibility::Module(path, VisibilityExplicitness::Explicit) => {
+                dumper.say(" in");
+                path.dump_to(dumper)
+            }
+            RawVisibility::Module(path, VisibilityExplicitness::Implicit) => {
+                dumper.say(" implicitly in");
+                path.dump_to(dumper)
+            }
+        }
+    }
+}
+
+impl<S: SyntaxSource> Dump<S> for RawVisibilityId {
+    fn dump_to(self, dumper: &mut Dumper<'_, '_, '_, '_, S>) -> Result<(), Refusal> {
+        let visibility = dumper.tables.raw_visibility(self)?;
+        visibility.dump_to(dumper)
+    }
+}
+
+impl<S: SyntaxSource> Dump<S> for AttrInput {
+    fn dump_to(self, dumper: &mut Dumper<'_, '_, '_, '_, S>) -> Result<(), Refusal> {
+        match self {
+            AttrInput::Literal(text) => dumper.dump_text(" literal ", text),
+            AttrInput::TokenTree(text) => dumper.dump_text(" tokens ", text),
+        }
+    }
+}
+
+impl<S: SyntaxSource> Dumper<'_, '_, '_, '_, S> {
+    // The text of a number, after a word.
+    fn dump_text(&mut self, word: &str, number: u32) -> Result<(), Refusal> {
+        let text = Quoted(self.source.text(number).ok_or(Refusal::MissingText)?);
+        self.say(format_args!("{word}{text}"));
         Ok(())
-    }
-
-    pub(crate) fn dump_name<S: SyntaxSource>(
-        &mut self,
-        source: &S,
-        name: Name,
-    ) -> Result<(), Refusal> {
-        self.say(b" ");
-        match name {
-            Name::Text(number) => self.dump_text(source, number),
-            Name::Missing => {
-                self.say(b"[missing name]");
-                Ok(())
-            }
-        }
-    }
-
-    pub(crate) fn dump_path_kind(&mut self, kind: PathKind) {
-        match kind {
-            PathKind::Plain => self.say(b" (plain"),
-            PathKind::Super(count) => {
-                self.say(b" (super ");
-                self.number(count);
-            }
-            PathKind::Crate => self.say(b" (crate"),
-            PathKind::Abs => self.say(b" (abs"),
-            PathKind::DollarCrate => self.say(b" ($crate"),
-        }
     }
 
     // A path by its kind and its names.
-    pub(crate) fn dump_path_of<S: SyntaxSource>(
-        &mut self,
-        source: &S,
-        kind: PathKind,
-        names: &[Name],
-    ) -> Result<(), Refusal> {
-        self.dump_path_kind(kind);
+    pub(crate) fn dump_path(&mut self, kind: PathKind, names: &[Name]) -> Result<(), Refusal> {
+        match kind {
+            PathKind::Plain => self.say(" (plain"),
+            PathKind::Super(count) => self.say(format_args!(" (super {count}")),
+            PathKind::Crate => self.say(" (crate"),
+            PathKind::Abs => self.say(" (abs"),
+            PathKind::DollarCrate => self.say(" ($crate"),
+        }
         for name in names {
-            self.dump_name(source, *name)?;
+            name.dump_to(self)?;
         }
-        self.say(b")");
+        self.say(")");
         Ok(())
-    }
-
-    pub(crate) fn dump_path<S: SyntaxSource>(
-        &mut self,
-        tree: &TreeTables,
-        source: &S,
-        id: PathId,
-    ) -> Result<(), Refusal> {
-        let path = tree.path(id)?;
-        self.dump_path_of(source, path.kind(), tree.names(path))
-    }
-
-    pub(crate) fn dump_maybe_path<S: SyntaxSource>(
-        &mut self,
-        tree: &TreeTables,
-        source: &S,
-        path: Option<PathId>,
-    ) -> Result<(), Refusal> {
-        match path {
-            Some(path) => self.dump_path(tree, source, path),
-            None => {
-                self.say(b" -");
-                Ok(())
-            }
-        }
-    }
-
-    pub(crate) fn dump_alias<S: SyntaxSource>(
-        &mut self,
-        source: &S,
-        alias: Option<ImportAlias>,
-    ) -> Result<(), Refusal> {
-        match alias {
-            Some(ImportAlias::Underscore) => self.say(b" as _"),
-            Some(ImportAlias::Alias(name)) => {
-                self.say(b" as");
-                self.dump_name(source, name)?;
-            }
-            None => self.say(b" -"),
-        }
-        Ok(())
-    }
-
-    pub(crate) fn dump_raw_visibility<S: SyntaxSource>(
-        &mut self,
-        tree: &TreeTables,
-        source: &S,
-        visibility: RawVisibility,
-    ) -> Result<(), Refusal> {
-        match visibility {
-            RawVisibility::Public => self.say(b" public"),
-            RawVisibility::PubCrate => self.say(b" crate"),
-            RawVisibility::PubSelf(VisibilityExplicitness::Explicit) => self.say(b" self"),
-            RawVisibility::PubSelf(VisibilityExplicitness::Implicit) => self.say(b" private"),
-            RawVisibility::Module(path, explicitness) => {
-                if explicitness.is_explicit() {
-                    self.say(b" in");
-                } else {
-                    self.say(b" implicitly in");
-                }
-                self.dump_path(tree, source, path)?;
-            }
-        }
-        Ok(())
-    }
-
-    pub(crate) fn dump_visibility<S: SyntaxSource>(
-        &mut self,
-        tree: &TreeTables,
-        source: &S,
-        id: RawVisibilityId,
-    ) -> Result<(), Refusal> {
-        let visibility = tree.raw_visibility(id)?;
-        self.dump_raw_visibility(tree, source, visibility)
     }
 
     // The ids of the items inside a module or an extern block.
-    pub(crate) fn dump_children(
-        &mut self,
-        tree: &TreeTables,
-        items: ItemIds,
-    ) -> Result<(), Refusal> {
-        for i in 0..items.count {
-            let id = tree.child(items, i)?;
-            self.say(b" ");
-            self.number(id.index);
+    pub(crate) fn dump_children(&mut self, items: ItemIds) -> Result<(), Refusal> {
+        for id in self.tables.children(items)? {
+            self.say(format_args!(" {}", id.index));
         }
         Ok(())
     }
 
-    fn dump_attr<S: SyntaxSource>(
-        &mut self,
-        tree: &TreeTables,
-        source: &S,
-        attr: Attr,
-    ) -> Result<(), Refusal> {
-        self.say(b"attribute");
-        self.dump_path(tree, source, attr.path)?;
-        match attr.input {
-            Some(AttrInput::Literal(text)) => {
-                self.say(b" literal ");
-                self.dump_text(source, text)?;
-            }
-            Some(AttrInput::TokenTree(text)) => {
-                self.say(b" tokens ");
-                self.dump_text(source, text)?;
-            }
-            None => self.say(b" -"),
-        }
-        self.say(b" context ");
-        self.number(attr.ctxt.number);
-        self.say(b"\n");
-        Ok(())
-    }
-
-    fn dump_attr_list<S: SyntaxSource>(
-        &mut self,
-        tree: &TreeTables,
-        source: &S,
-        attrs: AttrsOwned,
-    ) -> Result<(), Refusal> {
-        for i in 0..attrs.count {
-            let attr = tree.attr(attrs.first.saturating_add(i))?;
-            self.dump_attr(tree, source, attr)?;
-        }
+    fn dump_attr(&mut self, attr: Attr) -> Result<(), Refusal> {
+        self.say("attribute");
+        attr.path.dump_to(self)?;
+        attr.input.dump_to(self)?;
+        self.say(format_args!(" context {}\n", attr.ctxt.number));
         Ok(())
     }
 
     // One line for each attribute, and one for a false condition.
-    pub(crate) fn dump_attrs<S: SyntaxSource>(
-        &mut self,
-        tree: &TreeTables,
-        source: &S,
-        attrs: AttrsOrCfg,
-    ) -> Result<(), Refusal> {
-        match attrs {
-            AttrsOrCfg::Enabled { attrs } => self.dump_attr_list(tree, source, attrs),
-            AttrsOrCfg::CfgDisabled { cfg, attrs } => {
-                self.dump_attr_list(tree, source, attrs)?;
-                self.say(b"disabled ");
-                match cfg.text {
-                    Some(text) => self.dump_text(source, text)?,
-                    None => self.say(b"\"\""),
-                }
-                self.say(b"\n");
-                Ok(())
-            }
+    pub(crate) fn dump_attrs(&mut self, attrs: AttrsOrCfg) -> Result<(), Refusal> {
+        for attr in self.tables.attr_list(attrs.part())? {
+            self.dump_attr(*attr)?;
         }
+        if let AttrsOrCfg::CfgDisabled { cfg, .. } = attrs {
+            match cfg.text {
+                Some(text) => self.dump_text("disabled ", text)?,
+                None => self.say("disabled \"\""),
+            }
+            self.say("\n");
+        }
+        Ok(())
     }
 }

@@ -1,223 +1,139 @@
 // The record of each kind of item.
-use crate::out::Out;
+use crate::dumper::Dumper;
+use crate::parts::Dump;
 use items::ids::RawVisibilityId;
 use items::records::{
-    Const, ExpandTo, ExternCrate, MacroCall, Mod, ModKind, Struct, StructValueNsCtor, UseTrees,
-    VisibilityIds,
+    ExternCrate, MacroCall, Mod, ModKind, Struct, StructValueNsCtor, UseTrees, VisibilityIds,
 };
 use items::rows::{BigModItem, SmallModItem};
-use items::use_tree::{UseTree, UseTreeKind};
-use paths::name::Name;
+use items::use_tree::UseTreeKind;
 use syntax::refusal::Refusal;
 use syntax::source::SyntaxSource;
-use tree_tables::tree::TreeTables;
 
-fn expand_to_word(expand: ExpandTo) -> &'static [u8] {
-    match expand {
-        ExpandTo::Statements => b" Statements",
-        ExpandTo::Items => b" Items",
-        ExpandTo::Pattern => b" Pattern",
-        ExpandTo::Type => b" Type",
-        ExpandTo::Expr => b" Expr",
-    }
-}
-
-impl Out<'_> {
-    fn dump_named<S: SyntaxSource>(
+impl<S: SyntaxSource> Dumper<'_, '_, '_, '_, S> {
+    fn dump_named<D: Dump<S> + Drop>(
         &mut self,
-        tree: &TreeTables,
-        source: &S,
-        word: &[u8],
-        name: Name,
+        word: &str,
+        name: D,
         visibility: RawVisibilityId,
     ) -> Result<(), Refusal> {
         self.say(word);
-        self.dump_name(source, name)?;
-        self.dump_visibility(tree, source, visibility)
+        name.dump_to(self)?;
+        visibility.dump_to(self)
     }
 
-    fn dump_const<S: SyntaxSource>(
-        &mut self,
-        tree: &TreeTables,
-        source: &S,
-        item: Const,
-    ) -> Result<(), Refusal> {
-        self.say(b" const");
-        match item.name {
-            Some(name) => self.dump_name(source, name)?,
-            None => self.say(b" -"),
-        }
-        self.dump_visibility(tree, source, item.visibility)
-    }
-
-    fn dump_macro_call<S: SyntaxSource>(
-        &mut self,
-        tree: &TreeTables,
-        source: &S,
-        item: MacroCall,
-    ) -> Result<(), Refusal> {
-        self.say(b" call");
-        self.dump_path(tree, source, item.path)?;
-        self.say(expand_to_word(item.expand));
-        self.say(b" context ");
-        self.number(item.ctxt.number);
+    fn dump_macro_call(&mut self, item: MacroCall) -> Result<(), Refusal> {
+        self.say(" call");
+        item.path.dump_to(self)?;
+        self.say(format_args!(" {} context {}", item.expand, item.ctxt.number));
         Ok(())
     }
 
-    pub(crate) fn dump_small<S: SyntaxSource>(
-        &mut self,
-        tree: &TreeTables,
-        source: &S,
-        item: SmallModItem,
-    ) -> Result<(), Refusal> {
-        let (word, name, visibility): (&[u8], Name, RawVisibilityId) = match item {
-            SmallModItem::Function(it) => (b" fn", it.name, it.visibility),
-            SmallModItem::Union(it) => (b" union", it.name, it.visibility),
-            SmallModItem::Enum(it) => (b" enum", it.name, it.visibility),
-            SmallModItem::Static(it) => (b" static", it.name, it.visibility),
-            SmallModItem::Trait(it) => (b" trait", it.name, it.visibility),
-            SmallModItem::TypeAlias(it) => (b" type", it.name, it.visibility),
-            SmallModItem::Macro2(it) => (b" macro", it.name, it.visibility),
-            SmallModItem::Const(it) => return self.dump_const(tree, source, it),
-            SmallModItem::MacroCall(it) => return self.dump_macro_call(tree, source, it),
+    pub(crate) fn dump_small(&mut self, item: SmallModItem) -> Result<(), Refusal> {
+        match item {
+            SmallModItem::Function(it) => self.dump_named(" fn", it.name, it.visibility),
+            SmallModItem::Union(it) => self.dump_named(" union", it.name, it.visibility),
+            SmallModItem::Enum(it) => self.dump_named(" enum", it.name, it.visibility),
+            SmallModItem::Static(it) => self.dump_named(" static", it.name, it.visibility),
+            SmallModItem::Trait(it) => self.dump_named(" trait", it.name, it.visibility),
+            SmallModItem::TypeAlias(it) => self.dump_named(" type", it.name, it.visibility),
+            SmallModItem::Macro2(it) => self.dump_named(" macro", it.name, it.visibility),
+            SmallModItem::Const(it) => self.dump_named(" const", it.name, it.visibility),
+            SmallModItem::MacroCall(it) => self.dump_macro_call(it),
             SmallModItem::MacroRules(it) => {
-                self.say(b" macro_rules");
-                return self.dump_name(source, it.name);
+                self.say(" macro_rules");
+                it.name.dump_to(self)
             }
-            SmallModItem::Impl(it) => return Ok(self.say(if it.of_trait {
-                b" impl of a trait"
+            SmallModItem::Impl(it) => Ok(self.say(if it.of_trait {
+                " impl of a trait"
             } else {
-                b" impl"
+                " impl"
             })),
             SmallModItem::ExternBlock(it) => {
-                self.say(b" extern");
-                return self.dump_children(tree, it.children);
+                self.say(" extern");
+                self.dump_children(it.children)
             }
-        };
-        self.dump_named(tree, source, word, name, visibility)
+        }
     }
 
-    pub(crate) fn dump_big<S: SyntaxSource>(
-        &mut self,
-        tree: &TreeTables,
-        source: &S,
-        item: BigModItem,
-    ) -> Result<(), Refusal> {
+    pub(crate) fn dump_big(&mut self, item: BigModItem) -> Result<(), Refusal> {
         match item {
-            BigModItem::Struct(it) => self.dump_struct(tree, source, it),
-            BigModItem::Mod(it) => self.dump_module(tree, source, it),
-            BigModItem::ExternCrate(it) => self.dump_extern_crate(tree, source, it),
+            BigModItem::Struct(it) => self.dump_struct(it),
+            BigModItem::Mod(it) => self.dump_module(it),
+            BigModItem::ExternCrate(it) => self.dump_extern_crate(it),
             BigModItem::Use(it) => {
-                self.say(b" use");
-                self.dump_visibility(tree, source, it.visibility)
+                self.say(" use");
+                it.visibility.dump_to(self)
             }
         }
     }
 
-    fn dump_struct<S: SyntaxSource>(
-        &mut self,
-        tree: &TreeTables,
-        source: &S,
-        item: Struct,
-    ) -> Result<(), Refusal> {
-        self.dump_named(tree, source, b" struct", item.name, item.visibility)?;
+    fn dump_struct(&mut self, item: Struct) -> Result<(), Refusal> {
+        self.dump_named(" struct", item.name, item.visibility)?;
         match item.ctor {
-            StructValueNsCtor::NoValueNsCtor => {
-                self.say(b" no constructor");
-                Ok(())
-            }
+            StructValueNsCtor::NoValueNsCtor => Ok(self.say(" no constructor")),
             StructValueNsCtor::ValueNsCtorWithVis(id) => {
-                self.say(b" constructor");
-                self.dump_visibility(tree, source, id)
+                self.say(" constructor");
+                id.dump_to(self)
             }
-            StructValueNsCtor::ValueNsCtorWithMinVis(list) => self.dump_ctor_list(
-                tree, source, list,
-            ),
+            StructValueNsCtor::ValueNsCtorWithMinVis(list) => self.dump_ctor_list(list),
         }
     }
 
-    fn dump_ctor_list<S: SyntaxSource>(
-        &mut self,
-        tree: &TreeTables,
-        source: &S,
-        list: VisibilityIds,
-    ) -> Result<(), Refusal> {
-        self.say(b" constructor list");
-        for i in 0..list.count {
-            let id = tree.ctor_visibility(list, i)?;
-            self.dump_visibility(tree, source, id)?;
+    fn dump_ctor_list(&mut self, list: VisibilityIds) -> Result<(), Refusal> {
+        self.say(" constructor list");
+        for id in self.tables.ctor_visibilities(list)? {
+            id.dump_to(self)?;
         }
         Ok(())
     }
 
-    fn dump_module<S: SyntaxSource>(
-        &mut self,
-        tree: &TreeTables,
-        source: &S,
-        item: Mod,
-    ) -> Result<(), Refusal> {
-        self.dump_named(tree, source, b" mod", item.name, item.visibility)?;
+    fn dump_module(&mut self, item: Mod) -> Result<(), Refusal> {
+        self.dump_named(" mod", item.name, item.visibility)?;
         match item.kind {
             ModKind::Inline { items } => {
-                self.say(b" inline");
-                self.dump_children(tree, items)
+                self.say(" inline");
+                self.dump_children(items)
             }
-            ModKind::Outline => {
-                self.say(b" outline");
-                Ok(())
-            }
+            ModKind::Outline => Ok(self.say(" outline")),
         }
     }
 
-    fn dump_extern_crate<S: SyntaxSource>(
-        &mut self,
-        tree: &TreeTables,
-        source: &S,
-        item: ExternCrate,
-    ) -> Result<(), Refusal> {
-        self.dump_named(tree, source, b" extern crate", item.name, item.visibility)?;
-        self.dump_alias(source, item.alias)
+    fn dump_extern_crate(&mut self, item: ExternCrate) -> Result<(), Refusal> {
+        self.dump_named(" extern crate", item.name, item.visibility)?;
+        item.alias.dump_to(self)
     }
 
     // The use nodes of an item, by their places.
-    pub(crate) fn dump_use_trees<S: SyntaxSource>(
-        &mut self,
-        tree: &TreeTables,
-        source: &S,
-        nodes: UseTrees,
-    ) -> Result<(), Refusal> {
-        for place in 0..nodes.count {
-            let node = tree.use_tree(nodes.first.saturating_add(place))?;
-            self.say(b"use ");
-            self.number(place);
-            self.dump_use_tree(tree, source, nodes.first, node)?;
-            self.say(b"\n");
+    pub(crate) fn dump_use_trees(&mut self, nodes: UseTrees) -> Result<(), Refusal> {
+        for (place, node) in self.tables.use_trees(nodes)?.iter().enumerate() {
+            self.say(format_args!("use {place}"));
+            self.dump_use_tree(nodes.first, node.kind)?;
+            self.say("\n");
         }
         Ok(())
     }
 
-    fn dump_use_tree<S: SyntaxSource>(
+    // A node of a use tree whose first node has the number `first`.
+    pub(crate) fn dump_use_tree<P: Dump<S> + Drop>(
         &mut self,
-        tree: &TreeTables,
-        source: &S,
         first: u32,
-        node: UseTree,
+        node: UseTreeKind<P>,
     ) -> Result<(), Refusal> {
-        match node.kind {
+        match node {
             UseTreeKind::Single { path, alias } => {
-                self.say(b" single");
-                self.dump_path(tree, source, path)?;
-                self.dump_alias(source, alias)
+                self.say(" single");
+                path.dump_to(self)?;
+                alias.dump_to(self)
             }
             UseTreeKind::Glob { path } => {
-                self.say(b" glob");
-                self.dump_maybe_path(tree, source, path)
+                self.say(" glob");
+                path.dump_to(self)
             }
             UseTreeKind::Prefixed { prefix, end } => {
-                self.say(b" group");
-                self.dump_maybe_path(tree, source, prefix)?;
-                self.say(b" to ");
-                self.number(end.saturating_sub(first));
+                self.say(" group");
+                prefix.dump_to(self)?;
+                self.say(format_args!(" to {}", end.saturating_sub(first)));
                 Ok(())
             }
         }

@@ -1,100 +1,86 @@
 // A whole tree: its top level, each record by id, its visibilities by number.
-use crate::out::Out;
+use crate::dumper::{Dumper, Extent};
+use crate::parts::Dump;
 use item_tree::tree::ItemTree;
 use items::ids::{ModItemId, RawVisibilityId};
 use items::rows::{BigModItem, IndexedItem, ModItem};
 use syntax::refusal::Refusal;
 use syntax::source::SyntaxSource;
-use tree_tables::tree::TreeTables;
 
 // No tree has as many records of one size, or as many visibilities.
 const MOST: u32 = 1_024;
 
-impl Out<'_> {
-    pub(crate) fn dump_tree<S: SyntaxSource>(
-        &mut self,
-        tree: &ItemTree,
-        source: &S,
-    ) -> Result<(), Refusal> {
+impl<S: SyntaxSource> Dumper<'_, '_, '_, '_, S> {
+    pub(crate) fn dump_tree(&mut self, tree: &ItemTree) -> Result<(), Refusal> {
         self.dump_top(tree);
         if let Some(attrs) = tree.attrs(ModItemId::TOP_OWNER)? {
-            self.dump_attrs(tree.tables(), source, attrs)?;
+            self.dump_attrs(attrs)?;
         }
-        self.dump_items(tree, source, false)?;
-        self.dump_items(tree, source, true)?;
-        self.dump_visibilities(tree.tables(), source)
+        self.dump_items(tree, ModItemId::new_small)?;
+        self.dump_items(tree, ModItemId::new_big)?;
+        self.dump_visibilities()
     }
 
     fn dump_top(&mut self, tree: &ItemTree) {
-        self.say(b"top");
+        self.say("top");
         for id in tree.top_level_items() {
-            self.say(b" ");
-            self.number(id.index);
+            self.say(format_args!(" {}", id.index));
         }
-        self.say(b"\n");
+        self.say("\n");
     }
 
     // The small items or the big ones, up to the first id that names nothing.
-    fn dump_items<S: SyntaxSource>(
+    fn dump_items<F: Fn(u32) -> Result<ModItemId, Refusal>>(
         &mut self,
         tree: &ItemTree,
-        source: &S,
-        big: bool,
-    ) -> Result<(), Refusal> {
-        for row in 0..MOST {
-            let id = ModItemId {
-                index: if big { 2 * row + 1 } else { 2 * row },
-            };
-            let Ok(item) = tree.index(id) else {
-                return Ok(());
-            };
-            self.dump_item(tree, source, id, item)?;
+        id_of: F,
+    ) -> Result<(), Refusal>
+        requires { F.IsAlwaysCallable id_of }
+    {
+        let items = (0..MOST).map_while(|row| {
+            let id = id_of(row).ok()?;
+            Some((id, tree.index(id).ok()?))
+        });
+        for (id, item) in items {
+            self.dump_item(tree, id, item)?;
         }
         Ok(())
     }
 
-    fn dump_item<S: SyntaxSource>(
+    fn dump_item(
         &mut self,
         tree: &ItemTree,
-        source: &S,
         id: ModItemId,
         item: IndexedItem,
     ) -> Result<(), Refusal> {
-        self.say(b"item ");
-        self.number(id.index);
-        self.say(b" node ");
-        self.number(item.id.node);
+        self.say(format_args!("item {} node {}", id.index, item.id.node));
         match item.item {
-            ModItem::Small(record) => self.dump_small(tree.tables(), source, record)?,
-            ModItem::Big(record) => self.dump_big(tree.tables(), source, record)?,
+            ModItem::Small(record) => self.dump_small(record)?,
+            ModItem::Big(record) => self.dump_big(record)?,
         }
-        self.say(b"\n");
+        self.say("\n");
         if let ModItem::Big(BigModItem::Use(it)) = item.item {
-            self.dump_use_trees(tree.tables(), source, it.use_tree)?;
-            if self.is_whole() {
-                self.dump_imports(tree, source, id)?;
+            self.dump_use_trees(it.use_tree)?;
+            if self.extent == Extent::Whole {
+                self.dump_imports(tree, id)?;
             }
         }
         if let Some(attrs) = tree.attrs(id)? {
-            self.dump_attrs(tree.tables(), source, attrs)?;
+            self.dump_attrs(attrs)?;
         }
         Ok(())
     }
 
     // The module visibilities, up to the first number that names nothing.
-    fn dump_visibilities<S: SyntaxSource>(
-        &mut self,
-        tree: &TreeTables,
-        source: &S,
-    ) -> Result<(), Refusal> {
-        for number in 0..MOST {
-            let Ok(visibility) = tree.raw_visibility(RawVisibilityId { number }) else {
-                return Ok(());
-            };
-            self.say(b"visibility ");
-            self.number(number);
-            self.dump_raw_visibility(tree, source, visibility)?;
-            self.say(b"\n");
+    fn dump_visibilities(&mut self) -> Result<(), Refusal> {
+        let tables = self.tables;
+        let visibilities = (0..MOST)
+            .map_while(|number| tables.raw_visibility(RawVisibilityId { number }).ok())
+            .enumerate();
+        for (number, visibility) in visibilities {
+            self.say(format_args!("visibility {number}"));
+            visibility.dump_to(self)?;
+            self.say("\n");
         }
         Ok(())
     }

@@ -5,7 +5,8 @@ use Rattle.std.proofs.lemmas.List.{length-replicate, length_push}
 use Rattle.syntax.specs.declared.refusal.Refusal.{Refusal}
 use Rattle.forms.specs.Form.{Field, number, in_bytes, Narrow}
 use Rattle.forms.specs.Reading.{Any, OfLength, Stands, Fails}
-use Rattle.forms.proofs.Fields.{joined-append, bytes-append, narrow-append, narrow_left, narrow_right}
+use Rattle.std.proofs.lemmas.Grind.{flat_map-append}
+use Rattle.forms.proofs.Fields.{bytes-append, narrow-append, narrow_left, narrow_right}
 use Rattle.forms.proofs.Sequences.{fails_first, fails_after}
 use Rattle.forms.proofs.Firmness.{Single, Firm, no_fields, firm_pair}
 
@@ -21,7 +22,7 @@ module _ {A : Type 0} (f : A → List Field) where
   pub row_more : (i : ℕ) (bs middle rest : List ℕ) (xs : List A) (x : A) → Stands (OfLength i) (flat_map f) bs xs middle → Stands Any f middle x rest → Stands (OfLength (i + 1)) (flat_map f) bs (xs ++ x ∷ []) rest
   row_more i bs middle rest xs x p q =
       let one : flat_map f (x ∷ []) ≡ f x = append-nil (f x) in
-      let all : flat_map f (xs ++ x ∷ []) ≡ flat_map f xs ++ f x = joined-append f xs (x ∷ []) ∙ ap (λ l. flat_map f xs ++ l) one in
+      let all : flat_map f (xs ++ x ∷ []) ≡ flat_map f xs ++ f x = flat_map-append f xs (x ∷ []) ∙ ap (λ l. flat_map f xs ++ l) one in
       record {
         kept = length_push xs x ∙ ap (λ n. n + 1) p.kept;
         narrow = subst Narrow (sym all) (narrow-append (flat_map f xs) (f x) p.narrow q.narrow);

@@ -1,14 +1,10 @@
 -- Fields one after another.
-use Rattle.std.proofs.Common.{◌≡◌, ℕ, List, [], ◌∷◌, ◌++◌, sym, refl, ap, ◌∙◌, append_assoc}
-use Rattle.std.specs.List.{flat_map}
+use Rattle.std.proofs.Common.{◌≡◌, ℕ, List, [], ◌∷◌, ◌++◌, ap, ◌∙◌, append_assoc}
+use Rattle.std.proofs.lemmas.Grind.{flat_map-append}
 use Rattle.forms.specs.Form.{Field, number, content, field_bytes, in_bytes, Narrow}
 
-pub joined-append : {X A : Type 0} (f : X → List A) (xs ys : List X) → flat_map f (xs ++ ys) ≡ flat_map f xs ++ flat_map f ys
-joined-append f [] ys = refl
-joined-append f (x ∷ xs) ys = ap (λ l. f x ++ l) (joined-append f xs ys) ∙ sym (append_assoc (f x) (flat_map f xs) (flat_map f ys))
-
 pub bytes-append : (fs gs : List Field) (rest : List ℕ) → in_bytes (fs ++ gs) ++ rest ≡ in_bytes fs ++ (in_bytes gs ++ rest)
-bytes-append fs gs rest = ap (λ l. l ++ rest) (joined-append field_bytes fs gs) ∙ append_assoc (in_bytes fs) (in_bytes gs) rest
+bytes-append fs gs rest = ap (λ l. l ++ rest) (flat_map-append field_bytes fs gs) ∙ append_assoc (in_bytes fs) (in_bytes gs) rest
 
 pub narrow-append : (fs gs : List Field) → Narrow fs → Narrow gs → Narrow (fs ++ gs)
 narrow-append [] gs p q = q

@@ -1,6 +1,5 @@
 pub mod Groups
 pub mod NumberSteps
-pub mod Spans
 pub mod LawSteps
 pub mod Texts
 pub mod Judging

@@ -5,7 +5,8 @@ use Rattle.forms.specs.declared.number.NumberFault.{NumberFault}
 use Rattle.forms.specs.declared.number.NumberFault.TheVariants.{TooWide, NotShortest}
 use Rattle.forms.specs.Form.{Field, number, field_bytes, in_bytes, Narrow}
 use Rattle.forms.specs.Reading.{Cut, Stray, Fails}
-use Rattle.forms.proofs.Fields.{joined-append, bytes-append, narrow-append}
+use Rattle.std.proofs.lemmas.Grind.{flat_map-append}
+use Rattle.forms.proofs.Fields.{bytes-append, narrow-append}
 
 -- things w that begin with things a
 module _ {A W : Type 0} (P : A → Type 0) (f : A → List Field) (Q : W → Type 0) (g : W → List Field)
@@ -19,7 +20,7 @@ module _ {A W : Type 0} (P : A → Type 0) (f : A → List Field) (Q : W → Typ
         kept = k.2;
         narrow = subst Narrow (sym k.4) (narrow-append (f c.whole) k.1 c.narrow k.3);
         some = omega (arith, length-append c.rest (in_bytes k.1), c.some);
-        same = sym (append_assoc bs c.rest (in_bytes k.1)) ∙ ap (λ l. l ++ in_bytes k.1) c.same ∙ sym (joined-append field_bytes (f c.whole) k.1) ∙ ap in_bytes (sym k.4);
+        same = sym (append_assoc bs c.rest (in_bytes k.1)) ∙ ap (λ l. l ++ in_bytes k.1) c.same ∙ sym (flat_map-append field_bytes (f c.whole) k.1) ∙ ap in_bytes (sym k.4);
       }
 
   stray-first : (bs : List ℕ) (fault : NumberFault) → Stray P f bs fault → Stray Q g bs fault
@@ -60,7 +61,7 @@ module _ {A B W : Type 0} (f : A → List Field) (R : B → Type 0) (h : B → L
         kept = k.1;
         narrow = narrow_both c.whole k.0 c.narrow k.2;
         some = c.some;
-        same = ap (λ l. l ++ c.rest) read ∙ append_assoc (in_bytes (f a)) rest c.rest ∙ ap (λ l. in_bytes (f a) ++ l) c.same ∙ sym (joined-append field_bytes (f a) (h c.whole)) ∙ ap in_bytes (sym k.2);
+        same = ap (λ l. l ++ c.rest) read ∙ append_assoc (in_bytes (f a)) rest c.rest ∙ ap (λ l. in_bytes (f a) ++ l) c.same ∙ sym (flat_map-append field_bytes (f a) (h c.whole)) ∙ ap in_bytes (sym k.2);
       }
 
   stray-after : (fault : NumberFault) → Stray R h rest fault → Stray Q g bs fault

@@ -1,48 +1,29 @@
--- What is read goes into tables, one by one.
-use Rattle.std.proofs.Common.{ℕ, ◌+◌, ◌<◌, ◌≤◌, List, [], ◌∷◌, ◌++◌, length, take, drop, set, refl, ap, ◌∙◌, arith}
+-- What is read goes into a table, one by one.
+use Rattle.std.proofs.Common.{ℕ, ◌+◌, ◌<◌, ◌≢◌, List, [], ◌∷◌, ◌++◌, length, get_or, map, take, drop, set, ap, ◌∙◌, arith, get_or-set_other, get_or-set_same, below_more}
 use Rattle.std.specs.List.{flat_map}
 use Rattle.std.proofs.lemmas.List.{length-set, take_more_set, map_push}
-use Rattle.syntax.specs.declared.node.Node.{Node}
 use Rattle.syntax.specs.declared.refusal.Refusal.{Refusal}
-use Rattle.forms.specs.declared.tables.Span.{Span}
-use Rattle.forms.specs.Form.{node_fields, text_fields}
-use Rattle.forms.specs.Reading.{Any, OfLength, Stands, Fails, NodesRead, TextsRead}
-use Rattle.forms.specs.Tables.{spanned, spanned_all}
-use Rattle.forms.proofs.FieldRows.{row-none, row_more, row-past}
-use Rattle.forms.proofs.LawSteps.{no_node}
-use Rattle.forms.proofs.Spans.{within_more}
+use Rattle.forms.specs.Form.{Field, Narrow}
+use Rattle.forms.specs.Reading.{Any, OfLength, Stands, Fails, RowsRead}
+use Rattle.forms.proofs.FieldRows.{row_more, row-past}
 
-module _ (bytes : List ℕ) (start : ℕ) where
-  -- nodes
-  pub nodes-none : (table : List Node) → NodesRead bytes start 0 table start
-  nodes-none table = record { nodes = []; stand = row-none node_fields (drop start bytes); held = λ _. refl }
-
-  pub nodes_more : (i : ℕ) (table : List Node) (at : ℕ) (x : Node) (next : ℕ) → NodesRead bytes start i table at → Stands Any node_fields (drop at bytes) x (drop next bytes) → NodesRead bytes start (i + 1) (set table i x) next
-  nodes_more i table at x next p q = record {
-    nodes = p.nodes ++ x ∷ [];
-    stand = row_more node_fields i (drop start bytes) (drop at bytes) (drop next bytes) p.nodes x p.stand q;
-    held = λ room. take_more_set table i x (omega (arith, room, length-set table i x)) ∙ ap (λ l. l ++ x ∷ []) (p.held (omega (arith, room, length-set table i x)));
-  }
-
-  pub nodes_fail : (i n : ℕ) (table : List Node) (at : ℕ) (e : Refusal) → NodesRead bytes start i table at → i < n → Fails Any node_fields (drop at bytes) e → Fails (OfLength n) (flat_map node_fields) (drop start bytes) e
-  nodes_fail i n table at e p less h =
-      let s = p.stand in
-      row-past node_fields no_node (omega arith, (omega arith, (omega arith, (omega arith, (omega arith, (omega arith, tt)))))) n (drop start bytes) (drop at bytes) p.nodes e (omega (arith, s.kept)) s.narrow s.same h
-
-  -- texts
-  pub texts-none : (table : List Span) → TextsRead bytes start 0 table start
-  texts-none table = record { texts = []; stand = row-none text_fields (drop start bytes); held = λ _. refl; within = λ _ k less. absurd (omega arith) }
-
-  pub texts_more : (i : ℕ) (table : List Span) (at : ℕ) (span : Span) (next : ℕ) → TextsRead bytes start i table at → Stands Any text_fields (drop at bytes) (spanned bytes span) (drop next bytes) → span.start + span.len ≤ length bytes → TextsRead bytes start (i + 1) (set table i span) next
-  texts_more i table at span next p q fits = record {
-    texts = p.texts ++ spanned bytes span ∷ [];
-    stand = row_more text_fields i (drop start bytes) (drop at bytes) (drop next bytes) p.texts (spanned bytes span) p.stand q;
+module _ {A M : Type 0} (meant : A → M) (fields : M → List Field) (Within : A → Type 0) (bytes : List ℕ) (start : ℕ) where
+  pub rows_more : (i : ℕ) (table : List A) (at : ℕ) (x : A) (next : ℕ) → RowsRead meant fields Within bytes start i table at → Stands Any fields (drop at bytes) (meant x) (drop next bytes) × Within x → RowsRead meant fields Within bytes start (i + 1) (set table i x) next
+  rows_more i table at x next p q = record {
+    rows = p.rows ++ meant x ∷ [];
+    stand = row_more fields i (drop start bytes) (drop at bytes) (drop next bytes) p.rows (meant x) p.stand q.0;
     held = λ room.
-        ap (spanned_all bytes) (take_more_set table i span (omega (arith, room, length-set table i span))) ∙ map_push (spanned bytes) (take i table) span ∙ ap (λ l. l ++ spanned bytes span ∷ []) (p.held (omega (arith, room, length-set table i span)));
-    within = λ room. within_more table i (length bytes) span p.within fits room;
+        let size = length-set table i x in
+        ap (map meant) (take_more_set table i x (omega (arith, room, size))) ∙ map_push meant (take i table) x ∙ ap (λ l. l ++ meant x ∷ []) (p.held (omega (arith, room, size)));
+    within = λ room d.
+        let size = length-set table i x in
+        let here : i < length table = omega (arith, room, size) in
+        below_more (λ k. Within (get_or (set table i x) k d)) i
+        (λ k less. let ne : k ≢ i = omega arith in rw (get_or-set_other table i k x d ne) (p.within (omega (arith, room, size)) d k less))
+        (rw (get_or-set_same table i x d here) q.1);
   }
 
-  pub texts_fail : (i n : ℕ) (table : List Span) (at : ℕ) (e : Refusal) → TextsRead bytes start i table at → i < n → Fails Any text_fields (drop at bytes) e → Fails (OfLength n) (flat_map text_fields) (drop start bytes) e
-  texts_fail i n table at e p less h =
+  pub rows_fail : (some : M) → Narrow (fields some) → (i n : ℕ) (table : List A) (at : ℕ) (e : Refusal) → RowsRead meant fields Within bytes start i table at → i < n → Fails Any fields (drop at bytes) e → Fails (OfLength n) (flat_map fields) (drop start bytes) e
+  rows_fail some narrow i n table at e p less h =
       let s = p.stand in
-      row-past text_fields [] (omega arith, tt) n (drop start bytes) (drop at bytes) p.texts e (omega (arith, s.kept)) s.narrow s.same h
+      row-past fields some narrow n (drop start bytes) (drop at bytes) p.rows e (omega (arith, s.kept)) s.narrow s.same h

@@ -1,12 +1,12 @@
 -- Texts by their spans: their lengths, and whether they are equal.
-use Rattle.std.proofs.Common.{◌≡◌, ℕ, ◌+◌, ◌<◌, ◌≤◌, Bool, true, false, not, ◌&&◌, ◌||◌, leb, List, length, get_or, take, drop, sym, refl, ap, ◌∙◌, ⊎_elim, arith, length-drop, length-take}
+use Rattle.std.proofs.Common.{◌≡◌, ℕ, suc, ◌+◌, ◌<◌, ◌≤◌, true, false, not, ◌&&◌, ◌||◌, leb, List, [], ◌∷◌, length, get_or, take, drop, sym, refl, ap, ◌∙◌, subst, arith, length-drop, length-take}
+use Rattle.std.specs.List.{list_any}
 use Rattle.std.specs.Str.{bytes_eq}
-use Rattle.std.proofs.lemmas.Slice.Eq.{bytes_eq-Decides}
-use Rattle.std.proofs.lemmas.List.{at_drop_more, at_drop_all, get_or-take}
-use Rattle.std.proofs.lemmas.Bool.{cases_Bool, or_left, and_left, and_right, le-leb, lt-leb}
+use Rattle.std.proofs.lemmas.List.{get_or-take, get_or_default}
+use Rattle.std.proofs.lemmas.Bool.{and_left, and_right, le-leb, lt-leb}
 use Rattle.forms.specs.declared.tables.Span.{Span}
 use Rattle.syntax.specs.Law.{among, is_text, lawful_texts}
-use Rattle.forms.specs.Tables.{SpansWithin, no_span, spanned, spanned_all}
+use Rattle.forms.specs.Tables.{SpansWithin, span_end, no_span, spanned, spanned_all}
 
 pub within-front : (spans : List Span) (t size : ℕ) → t ≤ length spans → SpansWithin spans t size → SpansWithin (take t spans) (length (take t spans)) size
 within-front spans t size fits h k less =
@@ -17,47 +17,48 @@ module _ (bytes : List ℕ) where
   pub spanned-length : (span : Span) → span.start + span.len ≤ length bytes → length (spanned bytes span) ≡ span.len
   spanned-length span fits = omega (arith, length-take span.len (drop span.start bytes), length-drop span.start bytes)
 
-  pub other_length : (l r : Span) → l.start + l.len ≤ length bytes → r.start + r.len ≤ length bytes → (l.len ≡ r.len → ⊥) → false ≡ bytes_eq (spanned bytes l) (spanned bytes r)
-  other_length l r p q apart =
-      ⊎_elim
-      (λ same. absurd (apart (sym (spanned-length l p) ∙ ap length ((bytes_eq-Decides (spanned bytes l) (spanned bytes r)).0 same) ∙ spanned-length r q)))
-      (λ other. sym other)
-      (cases_Bool (bytes_eq (spanned bytes l) (spanned bytes r)))
+  -- one of the spans lies within the bytes
+  pub one_within : (spans : List Span) (k : ℕ) (span : Span) → SpansWithin spans (length spans) (length bytes) → (k < length spans) × (span ≡ get_or spans k span) → span_end span ≤ length bytes
+  one_within spans k span within h = subst (λ s. span_end s ≤ length bytes) (get_or_default spans k no_span span h.0 ∙ sym h.1) (within k h.0)
 
-  module _ (span : Span) (later : List (List ℕ)) (fits : span.start + span.len ≤ length bytes) where
-    pub text-none : span.len ≡ 0 → is_text (spanned bytes span) later ≡ false
-    unfolding is_text
-    text-none z = and_left (leb 1 (length (spanned bytes span))) _ (lt-leb 1 _ (omega (arith, spanned-length span fits)))
+  -- a search among texts by their spans
+  pub any_among : (t : List ℕ) (spans : List Span) → list_any (λ span. bytes_eq t (spanned bytes span)) spans ≡ among t (spanned_all bytes spans)
+  any_among t [] = refl
+  any_among t (span ∷ spans) = ap (λ b. bytes_eq t (spanned bytes span) || b) (any_among t spans)
 
-    pub text_long : 255 < span.len → is_text (spanned bytes span) later ≡ false
-    unfolding is_text
-    text_long long = and_right (leb 1 (length (spanned bytes span))) _ (and_left (leb (length (spanned bytes span)) 255) _ (lt-leb _ 255 (omega (arith, spanned-length span fits))))
+-- a text by its length
+module _ (t : List ℕ) (later : List (List ℕ)) where
+  pub text-none : length t ≡ 0 → is_text t later ≡ false
+  unfolding is_text
+  text-none z = and_left (leb 1 (length t)) _ (lt-leb 1 _ (omega arith))
 
-    pub text-fits : (span.len ≡ 0 → ⊥) → span.len ≤ 255 → is_text (spanned bytes span) later ≡ not (among (spanned bytes span) later)
-    unfolding is_text
-    text-fits some few =
-        let low : 1 ≤ length (spanned bytes span) = omega (arith, spanned-length span fits, some) in
-        let high : length (spanned bytes span) ≤ 255 = omega (arith, spanned-length span fits) in
-        rw (le-leb 1 (length (spanned bytes span)) low, le-leb (length (spanned bytes span)) 255 high) refl
+  pub text_long : 255 < length t → is_text t later ≡ false
+  unfolding is_text
+  text_long long = and_right (leb 1 (length t)) _ (and_left (leb (length t) 255) _ (lt-leb _ 255 long))
 
-  module _ (spans : List Span) (i : ℕ) where
-    pub among-here : (t : List ℕ) → i < length spans → true ≡ bytes_eq t (spanned bytes (get_or spans i no_span)) → among t (spanned_all bytes (drop i spans)) ≡ true
-    among-here t less same = at_drop_more (λ l. among t (spanned_all bytes l)) spans i no_span less ∙ or_left (bytes_eq t (spanned bytes (get_or spans i no_span))) _ (sym same)
+  pub text-fits : (length t ≡ 0 → ⊥) → length t ≤ 255 → is_text t later ≡ not (among t later)
+  unfolding is_text
+  text-fits some few = rw (le-leb 1 (length t) (omega (arith, some)), le-leb (length t) 255 few) refl
 
-    pub among_later : (t : List ℕ) → i < length spans → false ≡ bytes_eq t (spanned bytes (get_or spans i no_span)) → among t (spanned_all bytes (drop i spans)) ≡ among t (spanned_all bytes (drop (i + 1) spans))
-    among_later t less other = at_drop_more (λ l. among t (spanned_all bytes l)) spans i no_span less ∙ ap (λ b. b || among t (spanned_all bytes (drop (i + 1) spans))) (sym other)
+-- texts, one by one
+module _ (bytes : List ℕ) (rest : List Span) (span : Span) (later : List Span) (parts : rest ≡ span ∷ later) where
+  pub within_first : SpansWithin rest (length rest) (length bytes) → span_end span ≤ length bytes
+  within_first h = let k : SpansWithin (span ∷ later) (length (span ∷ later)) (length bytes) = subst (λ spans. SpansWithin spans (length spans) (length bytes)) parts h in k 0 (omega arith)
 
-    pub among_none : (t : List ℕ) → length spans ≤ i → among t (spanned_all bytes (drop i spans)) ≡ false
-    among_none t past = at_drop_all (λ l. among t (spanned_all bytes l)) spans i past
+  pub within_later : SpansWithin rest (length rest) (length bytes) → SpansWithin later (length later) (length bytes)
+  within_later h k less = let j : SpansWithin (span ∷ later) (length (span ∷ later)) (length bytes) = subst (λ spans. SpansWithin spans (length spans) (length bytes)) parts h in j (suc k) (omega arith)
 
-    abbrev here : Bool
-    here = is_text (spanned bytes (get_or spans i no_span)) (spanned_all bytes (drop (i + 1) spans))
+  module _ (t : List ℕ) (same : t ≡ spanned bytes span) where
+    -- the first text decides, or those after it
+    first_text : lawful_texts (spanned_all bytes rest) ≡ (is_text t (spanned_all bytes later) && lawful_texts (spanned_all bytes later))
+    first_text = ap (λ spans. lawful_texts (spanned_all bytes spans)) parts ∙ ap (λ u. is_text u (spanned_all bytes later) && lawful_texts (spanned_all bytes later)) (sym same)
 
-    pub texts-bad : i < length spans → false ≡ here → lawful_texts (spanned_all bytes (drop i spans)) ≡ false
-    texts-bad less bad = at_drop_more (λ l. lawful_texts (spanned_all bytes l)) spans i no_span less ∙ and_left here _ (sym bad)
+    pub texts-bad : false ≡ is_text t (spanned_all bytes later) → lawful_texts (spanned_all bytes rest) ≡ false
+    texts-bad bad = first_text ∙ and_left (is_text t (spanned_all bytes later)) _ (sym bad)
 
-    pub texts_more : i < length spans → true ≡ here → lawful_texts (spanned_all bytes (drop i spans)) ≡ lawful_texts (spanned_all bytes (drop (i + 1) spans))
-    texts_more less good = at_drop_more (λ l. lawful_texts (spanned_all bytes l)) spans i no_span less ∙ ap (λ b. b && lawful_texts (spanned_all bytes (drop (i + 1) spans))) (sym good)
+    pub texts_more : true ≡ is_text t (spanned_all bytes later) → lawful_texts (spanned_all bytes rest) ≡ lawful_texts (spanned_all bytes later)
+    texts_more good = first_text ∙ ap (λ b. b && lawful_texts (spanned_all bytes later)) (sym good)
 
-    pub texts-all : length spans ≤ i → lawful_texts (spanned_all bytes (drop i spans)) ≡ true
-    texts-all past = at_drop_all (λ l. lawful_texts (spanned_all bytes l)) spans i past
+pub texts-none : (bytes : List ℕ) (spans : List Span) → length spans ≡ 0 → lawful_texts (spanned_all bytes spans) ≡ true
+texts-none bytes [] none = refl
+texts-none bytes (span ∷ spans) none = absurd (omega arith)

@@ -1,7 +1,7 @@
 -- The whole form at the front of bytes.
-use Rattle.std.proofs.Common.{◌≡◌, ℕ, ◌<◌, ◌≤◌, List, [], ◌∷◌, ◌++◌, length, drop, replicate, sym, refl, ap, ◌∙◌, append_assoc, append-nil, arith, length-drop}
+use Rattle.std.proofs.Common.{◌≡◌, ℕ, ◌<◌, ◌≤◌, List, [], ◌∷◌, ◌++◌, length, take, drop, replicate, sym, refl, ap, ◌∙◌, append_assoc, append-nil, arith, length-drop}
 use Rattle.std.specs.List.{flat_map}
-use Rattle.std.proofs.lemmas.List.{length-replicate, drop_all}
+use Rattle.std.proofs.lemmas.List.{length-replicate, drop_all, map-id}
 use Rattle.syntax.specs.Meaning.{Meaning}
 use Rattle.syntax.specs.declared.node.Node.{Node}
 use Rattle.syntax.specs.declared.refusal.Refusal.{Refusal}
@@ -16,7 +16,7 @@ use Rattle.forms.proofs.Sequences.{fails_first, fails_after}
 use Rattle.forms.proofs.Firmness.{Single, Firm, firm_pair}
 use Rattle.forms.proofs.FieldRows.{narrow-replicate, rows_single, rows_firm}
 use Rattle.forms.proofs.Codes.{number_fields, number-single, number_firm, number-stands, number_fails, node-single, node_firm, text-single, text_firm}
-use Rattle.forms.proofs.LawSteps.{no_node}
+use Rattle.forms.specs.Tables.{no_node, no_span}
 
 -- what is left of the fields after the first count, and after both
 abbrev after_both : Meaning → List Field
@@ -102,13 +102,13 @@ module _ (bytes : List ℕ) where
         pub bad-texts : (e : Refusal) → Fails (OfLength t) (flat_map text_fields) (drop c bytes) e → Fails Any form_fields bytes e
         bad-texts e h =
             let s = nodes.stand in
-            after-second e (fails_after (flat_map node_fields) (OfLength t) (flat_map text_fields) (OfCounts n t) after_both nodes.nodes s.narrow
-            (λ ts k. (record { nodes = nodes.nodes; texts = ts }, (s.kept, k), refl))
+            after-second e (fails_after (flat_map node_fields) (OfLength t) (flat_map text_fields) (OfCounts n t) after_both nodes.rows s.narrow
+            (λ ts k. (record { nodes = nodes.rows; texts = ts }, (s.kept, k), refl))
             (drop b bytes) (drop c bytes) s.same e h)
 
         module _ (spans : List Span) (d : ℕ) (texts : TextsRead bytes c t spans d) where
           meaning : Meaning
-          meaning = record { nodes = nodes.nodes; texts = texts.texts }
+          meaning = record { nodes = nodes.rows; texts = texts.rows }
 
           form-narrow : Narrow (form_fields meaning)
           unfolding meaning
@@ -116,7 +116,7 @@ module _ (bytes : List ℕ) where
               let x = nodes.stand in
               let y = texts.stand in (
                 omega (arith, x.kept, first.0),
-                (omega (arith, y.kept, second.0), narrow-append (flat_map node_fields nodes.nodes) (flat_map text_fields texts.texts) x.narrow y.narrow),
+                (omega (arith, y.kept, second.0), narrow-append (flat_map node_fields nodes.rows) (flat_map text_fields texts.rows) x.narrow y.narrow),
               )
 
           form-stands : bytes ≡ in_bytes (form_fields meaning) ++ drop d bytes
@@ -124,23 +124,23 @@ module _ (bytes : List ℕ) where
           form-stands =
               let x = nodes.stand in
               let y = texts.stand in
-              let both : drop b bytes ≡ in_bytes (after_both meaning) ++ drop d bytes = x.same ∙ ap (λ l. in_bytes (flat_map node_fields nodes.nodes) ++ l) y.same ∙ sym (bytes-append (flat_map node_fields nodes.nodes) (flat_map text_fields texts.texts) (drop d bytes)) in
-              let n-bytes = encoded (length nodes.nodes) in
-              let t-bytes = encoded (length texts.texts) in
+              let both : drop b bytes ≡ in_bytes (after_both meaning) ++ drop d bytes = x.same ∙ ap (λ l. in_bytes (flat_map node_fields nodes.rows) ++ l) y.same ∙ sym (bytes-append (flat_map node_fields nodes.rows) (flat_map text_fields texts.rows) (drop d bytes)) in
+              let n-bytes = encoded (length nodes.rows) in
+              let t-bytes = encoded (length texts.rows) in
               first.3 ∙ (λ i. encoded (sym x.kept i) ++ (second.3 ∙ (λ j. encoded (sym y.kept j) ++ both j)) i)
               ∙ sym (append_assoc n-bytes (t-bytes ++ in_bytes (after_both meaning)) (drop d bytes) ∙ ap (λ l. n-bytes ++ l) (append_assoc t-bytes (in_bytes (after_both meaning)) (drop d bytes)))
 
           pub too_long : d < length bytes → Long bytes
           too_long less = record { meaning = meaning; rest = drop d bytes; some = omega (arith, length-drop d bytes); narrow = form-narrow; same = form-stands }
 
-          pub whole-form : length bytes ≤ d → FormRead (FormOf bytes) bytes ns n spans t
+          pub whole-form : (room : (length ns ≡ 4096) × (length spans ≡ 1024)) → length bytes ≤ d → FormRead (FormOf bytes) bytes (record { nodes = ns; texts = spans; counts = record { nodes = n; texts = t }; room = room })
           unfolding meaning
-          whole-form all = record {
+          whole-form room all = record {
             meaning = meaning;
             form = record { narrow = form-narrow; same = form-stands ∙ ap (λ l. in_bytes (form_fields meaning) ++ l) (drop_all d bytes all) ∙ append-nil (in_bytes (form_fields meaning)) };
             node_count = nodes.stand.kept;
             text_count = texts.stand.kept;
-            nodes_held = nodes.held;
+            nodes_held = λ room. sym (map-id (take n ns)) ∙ nodes.held room;
             texts_held = texts.held;
-            within = texts.within;
+            within = λ room k less. texts.within room no_span k less;
           }

@@ -68,18 +68,18 @@ module _ (words : List ℕ) where
             past = subst (λ s. length bytes < span_end s) same p.past;
           }
 
-      pub whole_words : (nodes : List Node) (spans : List Span) → NodesCopied words n nodes → SpansCopied words bytes (2 + 6 * n) t spans → FormRead (WordFormOf words bytes) bytes nodes n spans t
-      whole_words nodes spans p q =
+      pub whole_words : (nodes : List Node) (spans : List Span) → NodesCopied words n nodes → SpansCopied words bytes (2 + 6 * n) t spans → (room : (length nodes ≡ 4096) × (length spans ≡ 1024)) → FormRead (WordFormOf words bytes) bytes (record { nodes = nodes; texts = spans; counts = record { nodes = n; texts = t }; room = room })
+      whole_words nodes spans p q room =
           let within : (k : ℕ) → k < text_count words → span_end (get_or (spans_in words) k no_span) ≤ length bytes =
           λ k less. subst (λ s. span_end s ≤ length bytes) (ap (λ j. span_from words (j + 2 * k)) start_is ∙ sym (span_in words k less)) (q.within k (omega (arith, counted.texts))) in
           let size = length-apart 2 (span_from words) (nodes_end words) (text_count words) in
-          let held : t ≤ length spans → take t spans ≡ spans_in words = λ room. q.held room ∙ (λ i. apart 2 (span_from words) (start_is i) (counted.texts i)) in
+          let held : t ≤ length spans → take t spans ≡ spans_in words = λ fits. q.held fits ∙ (λ i. apart 2 (span_from words) (start_is i) (counted.texts i)) in
           record {
             meaning = word_meaning words bytes;
             form = record { spans = spans_in words; same = words-whole words counted.all; within = λ k less. within k (omega (arith, size)); texts = refl };
             node_count = length-apart 6 (node_from words) 2 (node_count words) ∙ sym counted.nodes;
             text_count = length-map (spans_in words) _ ∙ size ∙ sym counted.texts;
-            nodes_held = λ room. p room ∙ ap (apart 6 (node_from words) 2) counted.nodes;
-            texts_held = λ room. ap (spanned_all bytes) (held room);
-            within = λ room k less. subst (λ s. span_end s ≤ length bytes) (ap (λ l. get_or l k no_span) (sym (held room)) ∙ get_or-take t spans k no_span less) (within k (omega (arith, counted.texts)));
+            nodes_held = λ fits. p fits ∙ ap (apart 6 (node_from words) 2) counted.nodes;
+            texts_held = λ fits. ap (spanned_all bytes) (held fits);
+            within = λ fits k less. subst (λ s. span_end s ≤ length bytes) (ap (λ l. get_or l k no_span) (sym (held fits)) ∙ get_or-take t spans k no_span less) (within k (omega (arith, counted.texts)));
           }

@@ -4,4 +4,4 @@ use Rattle.forms.specs.Tables.{table_meaning}
 use Rattle.forms.specs.declared.packed.PackedSource.{PackedSource}
 
 abbrev pub meaning_of : PackedSource → Meaning
-meaning_of source = table_meaning source.tables.nodes source.counts.nodes source.tables.texts source.counts.texts source.bytes.now
+meaning_of source = table_meaning source.tables source.bytes.now

@@ -1,5 +1,5 @@
 -- Things with fields, read from the front of bytes: one stands there, or why none does.
-use Rattle.std.specs.Prelude.{◌≡◌, ℕ, ◌<◌, ◌≤◌, ◌⊎◌, List, ◌∷◌, ◌++◌, length, take, drop}
+use Rattle.std.specs.Prelude.{◌≡◌, ℕ, ◌<◌, ◌≤◌, ◌⊎◌, List, ◌∷◌, ◌++◌, length, map, take, drop, slice_index_or}
 use Rattle.std.specs.List.{flat_map}
 use Rattle.syntax.specs.Meaning.{Meaning}
 use Rattle.syntax.specs.declared.node.Node.{Node}
@@ -8,9 +8,10 @@ use Rattle.syntax.specs.declared.refusal.Refusal.TheVariants.{Form, Number}
 use Rattle.forms.specs.declared.number.NumberFault.{NumberFault}
 use Rattle.forms.specs.declared.number.NumberFault.TheVariants.{TooWide, NotShortest}
 use Rattle.forms.specs.declared.tables.Span.{Span}
+use Rattle.forms.specs.declared.tables.Tables.{Tables}
 use Rattle.forms.specs.Numbers.{NumberFaulty}
 use Rattle.forms.specs.Form.{Field, number, in_bytes, Narrow, node_fields, text_fields, form_fields}
-use Rattle.forms.specs.Tables.{SpansWithin, spanned_all}
+use Rattle.forms.specs.Tables.{SpansWithin, span_end, spanned, spanned_all}
 
 abbrev pub Any : {A : Type 0} → A → Type 0
 Any a = Unit {0}
@@ -53,28 +54,29 @@ BadNumber P fields bytes = Stray P fields bytes TooWide ⊎ Stray P fields bytes
 unfoldable pub Fails : {A : Type 0} → (A → Type 0) → (A → List Field) → List ℕ → Refusal → Type 0
 Fails P fields bytes e = ((e ≡ Form) × Cut P fields bytes) ⊎ ((e ≡ Number) × BadNumber P fields bytes)
 
--- n nodes stand from `at` to `next`, and are in the table if it has room
-pub record NodesRead (bytes : List ℕ) (at n : ℕ) (table : List Node) (next : ℕ) : Type 0 where
-  pub nodes : List Node
-  pub stand : Stands (OfLength n) (flat_map node_fields) (drop at bytes) nodes (drop next bytes)
-  pub held : n ≤ length table → take n table ≡ nodes
+-- n things stand from `at` to `next`, and are in the table if it has room
+pub record RowsRead {A M : Type 0} (meant : A → M) (fields : M → List Field) (Within : A → Type 0) (bytes : List ℕ) (at n : ℕ) (table : List A) (next : ℕ) : Type 0 where
+  pub rows : List M
+  pub stand : Stands (OfLength n) (flat_map fields) (drop at bytes) rows (drop next bytes)
+  pub held : n ≤ length table → map meant (take n table) ≡ rows
+  pub within : n ≤ length table → (d : A) (k : ℕ) → k < n → Within (slice_index_or table k d)
 
--- t texts stand from `at` to `next`, and their spans are in the table if it has room
-pub record TextsRead (bytes : List ℕ) (at t : ℕ) (table : List Span) (next : ℕ) : Type 0 where
-  pub texts : List (List ℕ)
-  pub stand : Stands (OfLength t) (flat_map text_fields) (drop at bytes) texts (drop next bytes)
-  pub held : t ≤ length table → spanned_all bytes (take t table) ≡ texts
-  pub within : t ≤ length table → SpansWithin table t (length bytes)
+-- n nodes, and t texts, whose spans are in the table
+abbrev pub NodesRead : List ℕ → ℕ → ℕ → List Node → ℕ → Type 0
+NodesRead = RowsRead (λ x. x) node_fields Any
+
+abbrev pub TextsRead : List ℕ → ℕ → ℕ → List Span → ℕ → Type 0
+TextsRead bytes = RowsRead (spanned bytes) text_fields (λ span. span_end span ≤ length bytes) bytes
 
 -- it is the form of something, whose nodes and texts are in the tables if these have room
-pub record FormRead (FormOf : Meaning → Type 0) (bytes : List ℕ) (nodes : List Node) (n : ℕ) (spans : List Span) (t : ℕ) : Type 0 where
+pub record FormRead (FormOf : Meaning → Type 0) (bytes : List ℕ) (tables : Tables) : Type 0 where
   pub meaning : Meaning
   pub form : FormOf meaning
-  pub node_count : length meaning.nodes ≡ n
-  pub text_count : length meaning.texts ≡ t
-  pub nodes_held : n ≤ length nodes → take n nodes ≡ meaning.nodes
-  pub texts_held : t ≤ length spans → spanned_all bytes (take t spans) ≡ meaning.texts
-  pub within : t ≤ length spans → SpansWithin spans t (length bytes)
+  pub node_count : length meaning.nodes ≡ tables.counts.nodes
+  pub text_count : length meaning.texts ≡ tables.counts.texts
+  pub nodes_held : tables.counts.nodes ≤ length tables.nodes → take tables.counts.nodes tables.nodes ≡ meaning.nodes
+  pub texts_held : tables.counts.texts ≤ length tables.texts → spanned_all bytes (take tables.counts.texts tables.texts) ≡ meaning.texts
+  pub within : tables.counts.texts ≤ length tables.texts → SpansWithin tables.texts tables.counts.texts (length bytes)
 
 -- bytes come after a packed form
 pub record Long (bytes : List ℕ) : Type 0 where

@@ -2,8 +2,6 @@
 ghost use Rattle.forms.specs.Agreement.{OneMeaning};
 
 // Every lawful source has both forms, and they open as one: the statement is the contract.
-pub fn forms_agree() -> u8
+pub fn forms_agree()
     ensures { OneMeaning }
-{
-    0
-}
+{}

@@ -3,7 +3,7 @@ ghost use Rattle.std.specs.Prelude.{◌≡◌, ◌≤◌, true, length};
 ghost use Rattle.syntax.specs.Law.{lawful};
 ghost use Rattle.forms.specs.Tables.{SpansWithin, table_meaning};
 
-use crate::tables::{Counts, Tables};
+use crate::tables::Tables;
 
 pub mod open;
 mod reader;
@@ -13,9 +13,7 @@ mod reader;
 pub struct PackedSource<'a> {
     bytes: &'a [u8],
     tables: Tables,
-    counts: Counts,
-    ghost few: { (counts.nodes ≤ 4096) × (counts.texts ≤ 1024) },
-    ghost room: { (length tables.nodes ≡ 4096) × (length tables.texts ≡ 1024) },
-    ghost within: { SpansWithin tables.texts counts.texts (length bytes.now) },
-    ghost ruled: { lawful (table_meaning tables.nodes counts.nodes tables.texts counts.texts bytes.now) ≡ true },
+    ghost few: { (tables.counts.nodes ≤ 4096) × (tables.counts.texts ≤ 1024) },
+    ghost within: { SpansWithin tables.texts tables.counts.texts (length bytes.now) },
+    ghost ruled: { lawful (table_meaning tables bytes.now) ≡ true },
 }

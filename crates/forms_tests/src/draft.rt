@@ -1,31 +1,28 @@
 // A source that is written in both forms at once, number by number.
+use crate::writer::PackedWriter;
 use forms::packed::PackedSource;
 use forms::word::WordSource;
+use syntax::refusal::Refusal;
+use tables::table::Table;
 
 const MAX_WORDS: usize = 32_768;
 
 const MAX_BYTES: usize = 65_536;
 
 #[derive(Drop)]
-pub struct Draft {
-    words: [u32; MAX_WORDS],
-    word_count: usize,
-    packed: [u8; MAX_BYTES],
-    packed_count: usize,
+pub(crate) struct Draft {
+    packed: PackedWriter,
+    words: Table<u32, MAX_WORDS>,
     // the texts, beside the words
-    texts: [u8; MAX_BYTES],
-    text_count: usize,
+    texts: Table<u8, MAX_BYTES>,
 }
 
 impl Draft {
-    pub fn new(nodes: u32, texts: u32) -> Draft {
+    pub(crate) fn new(nodes: u32, texts: u32) -> Draft {
         let mut draft = Draft {
-            words: [0; MAX_WORDS],
-            word_count: 0,
-            packed: [0; MAX_BYTES],
-            packed_count: 0,
-            texts: [0; MAX_BYTES],
-            text_count: 0,
+            packed: PackedWriter::new(),
+            words: Table::new(0),
+            texts: Table::new(0),
         };
         draft.number(nodes);
         draft.number(texts);
@@ -33,81 +30,46 @@ impl Draft {
     }
 
     fn word(&mut self, word: u32) {
-        if self.word_count < MAX_WORDS {
-            self.words[self.word_count] = word;
-            self.word_count += 1;
-        }
-    }
-
-    fn byte(&mut self, byte: u8) {
-        if self.packed_count < MAX_BYTES {
-            self.packed[self.packed_count] = byte;
-            self.packed_count += 1;
-        }
-    }
-
-    fn groups(&mut self, number: u32) {
-        let mut rest = number;
-        while rest >= 128 {
-            self.byte((rest % 128) as u8 + 128);
-            rest /= 128;
-        }
-        self.byte(rest as u8);
+        let _ = self.words.push(word);
     }
 
     fn number(&mut self, number: u32) {
         self.word(number);
-        self.groups(number);
+        self.packed.number(number);
     }
 
     // A node without a text, and with an empty range.
-    pub fn node(&mut self, kind: u32, end: u32, mark: u32) {
-        self.number(kind);
-        self.number(end);
-        self.number(0);
-        self.number(mark);
-        self.number(0);
-        self.number(0);
-    }
-
-    pub fn text(&mut self, text: &[u8]) {
-        if text.len() > 1024 || self.text_count > MAX_BYTES {
-            return;
-        }
-        self.word(self.text_count as u32);
-        self.number(text.len() as u32);
-        for byte in text {
-            self.byte(*byte);
-            if self.text_count < MAX_BYTES {
-                self.texts[self.text_count] = *byte;
-                self.text_count += 1;
-            }
+    pub(crate) fn node(&mut self, kind: u32, end: u32, mark: u32) {
+        for number in [kind, end, 0, mark, 0, 0] {
+            self.number(number);
         }
     }
 
-    // What both forms answer when they are opened: 0, or the number of the refusal. 99 if they differ.
-    pub fn answer(&self) -> u32 {
-        let packed = answer_packed(&self.packed[0..self.packed_count.min(MAX_BYTES)]);
-        let words = answer_words(
-            &self.words[0..self.word_count.min(MAX_WORDS)],
-            &self.texts[0..self.text_count.min(MAX_BYTES)],
-        );
-        if packed == words { packed } else { 99 }
+    pub(crate) fn text(&mut self, text: &[u8]) {
+        let start = self.texts.len() as u32;
+        self.word(start);
+        self.word(u32::try_from(text.len()).unwrap_or(u32::MAX));
+        self.packed.text(text);
+        let _ = self.texts.extend_from_slice(text);
+    }
+
+    // What the packed form answers when it is opened.
+    pub(crate) fn open_packed(&self) -> Result<(), Refusal> {
+        open_packed(self.packed.bytes())
+    }
+
+    // What the word form answers.
+    pub(crate) fn open_words(&self) -> Result<(), Refusal> {
+        open_words(self.words.as_slice(), self.texts.as_slice())
     }
 }
 
-pub fn answer_packed(bytes: &[u8]) -> u32 {
+pub(crate) fn open_packed(bytes: &[u8]) -> Result<(), Refusal> {
     let mut source = PackedSource::least();
-    match source.open(bytes) {
-        Ok(()) => 0,
-        Err(refusal) => refusal.number(),
-    }
+    source.open(bytes)
 }
 
-pub fn answer_words(words: &[u32], bytes: &[u8]) -> u32 {
+pub(crate) fn open_words(words: &[u32], bytes: &[u8]) -> Result<(), Refusal> {
     let mut source = WordSource::least();
-    match source.open(words, bytes) {
-        Ok(()) => 0,
-        Err(refusal) => refusal.number(),
-    }
+    source.open(words, bytes)
 }

@@ -1,7 +1,8 @@
 // Both forms, case by case: what opening answers, beside the input.
 #![tactic(auto)]
 
-pub mod cases;
-pub mod draft;
+mod cases;
+mod draft;
 #[cfg(test)]
 mod tests;
+pub mod writer;

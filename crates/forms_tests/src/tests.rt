@@ -2,7 +2,7 @@
 #[cfg(test)]
 mod tests {
     use crate::cases::*;
-    use crate::draft::{answer_packed, answer_words};
+    use crate::draft::{Draft, open_packed, open_words};
     use forms::number::{NumberFault, read_number};
     use forms::packed::PackedSource;
     use forms::word::WordSource;
@@ -11,27 +11,32 @@ mod tests {
     use syntax::refusal::Refusal;
     use syntax::source::SyntaxSource;
 
+    // The refusal's number, or 0.
+    fn number_of(answer: Result<(), Refusal>) -> u32 {
+        answer.map_or_else(u32::from, |()| 0)
+    }
+
     fn check_packed(rt: &impl Abort, cases: &[(&[u8], u32)]) {
-        for case in cases {
-            assert_eq!(rt; answer_packed(case.0), case.1);
+        for (bytes, number) in cases {
+            assert_eq!(rt; number_of(open_packed(bytes)), *number);
         }
     }
 
     fn check_words(rt: &impl Abort, cases: &[(&[u32], &[u8], u32)]) {
-        for case in cases {
-            assert_eq!(rt; answer_words(case.0, case.1), case.2);
+        for (words, bytes, number) in cases {
+            assert_eq!(rt; number_of(open_words(words, bytes)), *number);
         }
+    }
+
+    // Both forms answer this.
+    fn check(rt: &impl Abort, draft: &Draft, number: u32) {
+        assert_eq!(rt; number_of(draft.open_packed()), number);
+        assert_eq!(rt; number_of(draft.open_words()), number);
     }
 
     fn check_rows(rt: &impl Abort, cases: &[(&[Row], u32)]) {
-        for case in cases {
-            assert_eq!(rt; answer_rows(case.0), case.1);
-        }
-    }
-
-    fn check_answers(rt: &impl Abort, cases: &[(u32, u32)]) {
-        for case in cases {
-            assert_eq!(rt; case.0, case.1);
+        for (case, number) in cases {
+            check(rt, &rows(case), *number);
         }
     }
 
@@ -70,11 +75,11 @@ mod tests {
 
     #[test]
     fn every_cut_is_refused(rt: HostRuntime) {
-        assert_eq!(rt; answer_packed(&PACKED), 0);
-        assert_eq!(rt; answer_words(&WORDS, b"mf"), 0);
+        assert_eq!(rt; number_of(open_packed(&PACKED)), 0);
+        assert_eq!(rt; number_of(open_words(&WORDS, b"mf")), 0);
         for len in 0..30 {
-            assert_eq!(rt; answer_packed(&PACKED[0..len]), 1);
-            assert_eq!(rt; answer_words(&WORDS[0..len], b"mf"), 1);
+            assert_eq!(rt; number_of(open_packed(&PACKED[..len])), 1);
+            assert_eq!(rt; number_of(open_words(&WORDS[..len], b"mf")), 1);
         }
     }
 
@@ -129,36 +134,26 @@ mod tests {
 
     #[test]
     fn counts_are_limited(rt: HostRuntime) {
-        check_answers(
-            &rt,
-            &[
-                (answer_flat(4096), 0),
-                (answer_flat(4097), 3),
-                (answer_texts(1024), 0),
-                (answer_texts(1025), 3),
-                (answer_nested(40), 0),
-                (answer_nested(41), 3),
-                (answer_segments(0), 3),
-                (answer_segments(64), 0),
-                (answer_segments(65), 3),
-            ],
-        );
+        check(&rt, &flat(4096), 0);
+        check(&rt, &flat(4097), 3);
+        check(&rt, &texts(1024), 0);
+        check(&rt, &texts(1025), 3);
+        check(&rt, &nested(40), 0);
+        check(&rt, &nested(41), 3);
+        check(&rt, &segments(0), 3);
+        check(&rt, &segments(64), 0);
+        check(&rt, &segments(65), 3);
     }
 
     #[test]
     fn texts_are_judged(rt: HostRuntime) {
-        check_answers(
-            &rt,
-            &[
-                (answer_two(b"a", b""), 3),
-                (answer_two(b"a", b"b"), 0),
-                (answer_two(b"a", b"a"), 3),
-                // one the front of the other
-                (answer_two(b"a", b"aa"), 0),
-                (answer_two(b"a", &[7; 255]), 0),
-                (answer_two(b"a", &[7; 256]), 3),
-            ],
-        );
+        check(&rt, &two(b"a", b""), 3);
+        check(&rt, &two(b"a", b"b"), 0);
+        check(&rt, &two(b"a", b"a"), 3);
+        // one the front of the other
+        check(&rt, &two(b"a", b"aa"), 0);
+        check(&rt, &two(b"a", &[7; 255]), 0);
+        check(&rt, &two(b"a", &[7; 256]), 3);
     }
 
     #[test]

@@ -2,7 +2,7 @@
 ghost use Rattle.std.specs.Prelude.{◌≡◌, ◌≤◌, length, MatchResult};
 
 use crate::import::Import;
-use crate::lists::{ImportHead, ImportLists, Lengths, lay};
+use crate::lists::{ImportHead, ImportLists, Lengths};
 use items::records::UseTrees;
 use items::use_tree::{ImportAlias, UseTreeKind};
 use lower::use_tree::MAX_USE_DEPTH;
@@ -10,157 +10,128 @@ use paths::interned::PathId;
 use paths::join::{ImportKind, PathShape, concat_mod_paths, single_import};
 use paths::name::Name;
 use syntax::refusal::{Needed, Refusal};
+use tables::table::Table;
 use tree_tables::tree::TreeTables;
 
 // The most names that the groups around a leaf have: 64 on each of 40 levels.
 const MAX_PREFIX_NAMES: usize = 2_560;
 
-// What the groups around a node come to.
+// What a path comes to under the groups around it, and its own names.
 #[derive(Clone, Copy)]
-enum Entered {
-    // some join fails, and nothing inside is imported
-    Broken,
-    Under(Option<PathShape>),
+struct Joined<'t> {
+    shape: Option<PathShape>,
+    own: &'t [Name],
 }
 
-// The names of a prefix: the first of those that are laid out.
-fn names_of(laid: &[Name], prefix: Option<PathShape>) -> &[Name] {
-    let len = match prefix {
-        Some(prefix) => prefix.len.min(laid.len()),
-        None => 0,
-    };
-    &laid[0..len]
-}
-
-// A single imports what its path names, if it joins.
-fn expand_single(
-    tables: &TreeTables,
-    laid: &[Name],
-    prefix: Option<PathShape>,
-    path: PathId,
-    alias: Option<ImportAlias>,
-    place: u32,
-    lists: &mut ImportLists,
-) -> Result<(), Refusal> {
-    let path = tables.path(path)?;
-    if let Some((path_kind, kind)) = single_import(prefix, path.shape()) {
-        let head = ImportHead {
-            path: path_kind,
-            kind,
-            alias,
-            place,
-        };
-        lists.emit(head, names_of(laid, prefix), tables.names(path));
-    }
-    Ok(())
-}
-
-// A glob imports all of what its path or the prefix names, if they join.
-fn expand_glob(
-    tables: &TreeTables,
-    laid: &[Name],
+// A group or a glob under the groups around it, unless they do not join; without a path it takes the prefix.
+fn join_or<'t>(
+    tables: &'t TreeTables,
     prefix: Option<PathShape>,
     path: Option<PathId>,
-    place: u32,
-    lists: &mut ImportLists,
-) -> Result<(), Refusal> {
-    let front = names_of(laid, prefix);
-    let kind = ImportKind::Glob;
-    let alias = None;
-    match path {
-        Some(path) => {
-            let path = tables.path(path)?;
-            if let Some(whole) = concat_mod_paths(prefix, path.shape()) {
-                let path_kind = whole.kind;
-                let head = ImportHead {
-                    path: path_kind,
-                    kind,
-                    alias,
-                    place,
-                };
-                lists.emit(head, front, tables.names(path));
-            }
-        }
-        None => {
-            if let Some(whole) = prefix {
-                let head = ImportHead {
-                    path: whole.kind,
-                    kind,
-                    alias,
-                    place,
-                };
-                lists.emit(head, front, &[]);
-            }
-        }
-    }
-    Ok(())
-}
-
-// The prefix inside a group: its names are laid out behind those of the prefix around it.
-fn enter(
-    tables: &TreeTables,
-    laid: &mut [Name],
-    prefix: Option<PathShape>,
-    path: Option<PathId>,
-) -> Result<Entered, Refusal> {
+) -> Result<Option<Joined<'t>>, Refusal> {
     let Some(path) = path else {
-        return Ok(Entered::Under(prefix));
+        return Ok(Some(Joined {
+            shape: prefix,
+            own: &[],
+        }));
     };
     let path = tables.path(path)?;
     let Some(whole) = concat_mod_paths(prefix, path.shape()) else {
-        return Ok(Entered::Broken);
+        return Ok(None);
     };
-    let own = tables.names(path);
-    let _ = lay(laid, whole.len.saturating_sub(own.len()), own);
-    Ok(Entered::Under(Some(whole)))
+    Ok(Some(Joined {
+        shape: Some(whole),
+        own: tables.names(path),
+    }))
 }
 
-// Which use nodes are expanded: those from `at` to `end`, of an item whose nodes begin at `first`.
-#[derive(Clone, Copy)]
-struct Members {
+// Expanding the use nodes of one item.
+#[derive(Drop)]
+struct Expansion<'t, 'i, 'n> {
+    tables: &'t TreeTables,
+    // the number of the item's first use node
     first: u32,
-    at: u32,
-    end: u32,
+    // the names of the groups around the node at hand
+    around: Table<Name, MAX_PREFIX_NAMES>,
+    lists: ImportLists<'i, 'n>,
 }
 
-// Expands the members of a group in turn; `depth` levels may follow.
-fn expand_impl(
-    tables: &TreeTables,
-    members: Members,
-    depth: u32,
-    prefix: Option<PathShape>,
-    laid: &mut [Name],
-    lists: &mut ImportLists,
-) -> Result<(), Refusal> {
-    let first = members.first;
-    let mut at = members.at;
-    while at < members.end {
-        let place = at.saturating_sub(first);
-        let mut next = at + 1;
-        match tables.use_tree(at)?.kind {
-            UseTreeKind::Single { path, alias } => {
-                expand_single(tables, laid, prefix, path, alias, place, lists)?;
-            }
-            UseTreeKind::Glob { path } => {
-                expand_glob(tables, laid, prefix, path, place, lists)?;
-            }
-            UseTreeKind::Prefixed { prefix: path, end } => {
-                if let Entered::Under(inner) = enter(tables, laid, prefix, path)?
-                    && depth > 0
-                {
-                    let inside = Members {
-                        first,
-                        at: next,
-                        end,
-                    };
-                    expand_impl(tables, inside, depth - 1, inner, laid, lists)?;
-                }
-                next = next.max(end);
-            }
+impl Expansion<'_, '_, '_> {
+    // A single imports what its path names, if it joins.
+    fn single(
+        &mut self,
+        prefix: Option<PathShape>,
+        path: PathId,
+        alias: Option<ImportAlias>,
+        place: u32,
+    ) -> Result<(), Refusal> {
+        let path = self.tables.path(path)?;
+        if let Some((path_kind, kind)) = single_import(prefix, path.shape()) {
+            let head = ImportHead {
+                path: path_kind,
+                kind,
+                alias,
+                place,
+            };
+            let own = self.tables.names(path);
+            self.lists.emit(head, self.around.as_slice(), own);
         }
-        at = next;
+        Ok(())
     }
-    Ok(())
+
+    // A glob imports all of what its path or the prefix names, if they join.
+    fn glob(
+        &mut self,
+        prefix: Option<PathShape>,
+        path: Option<PathId>,
+        place: u32,
+    ) -> Result<(), Refusal> {
+        if let Some(joined) = join_or(self.tables, prefix, path)?
+            && let Some(whole) = joined.shape
+        {
+            let head = ImportHead {
+                path: whole.kind,
+                kind: ImportKind::Glob,
+                alias: None,
+                place,
+            };
+            self.lists.emit(head, self.around.as_slice(), joined.own);
+        }
+        Ok(())
+    }
+
+    // The nodes from number `from` to before `to`, which are the members of one group; `depth` levels may follow.
+    fn expand_impl(
+        &mut self,
+        from: u32,
+        to: u32,
+        depth: u32,
+        prefix: Option<PathShape>,
+    ) -> Result<(), Refusal> {
+        // Plainer than an iterator over the members: the next one stands after all that a group has.
+        let mut at = from;
+        while at < to {
+            let place = at.saturating_sub(self.first);
+            let mut next = at + 1;
+            match self.tables.use_tree(at)?.kind {
+                UseTreeKind::Single { path, alias } => self.single(prefix, path, alias, place)?,
+                UseTreeKind::Glob { path } => self.glob(prefix, path, place)?,
+                UseTreeKind::Prefixed { prefix: path, end } => {
+                    if let Some(inner) = join_or(self.tables, prefix, path)?
+                        && depth > 0
+                    {
+                        let len = self.around.len();
+                        let _ = self.around.extend_from_slice(inner.own);
+                        self.expand_impl(next, end, depth - 1, inner.shape)?;
+                        self.around.truncate(len);
+                    }
+                    next = next.max(end);
+                }
+            }
+            at = next;
+        }
+        Ok(())
+    }
 }
 
 // All imports of a use item; those that find room are written.
@@ -170,15 +141,15 @@ fn expand_all(
     imports: &mut [Import],
     names: &mut [Name],
 ) -> Result<Lengths, Refusal> {
-    let mut laid = [Name::Missing; MAX_PREFIX_NAMES];
-    let mut lists = ImportLists::new(imports, names);
-    let members = Members {
+    let mut expansion = Expansion {
+        tables,
         first: uses.first,
-        at: uses.first,
-        end: uses.first.saturating_add(uses.count),
+        around: Table::new(Name::Missing),
+        lists: ImportLists::new(imports, names),
     };
-    expand_impl(tables, members, MAX_USE_DEPTH, None, &mut laid, &mut lists)?;
-    Ok(lists.lengths())
+    let end = uses.first.saturating_add(uses.count);
+    expansion.expand_impl(uses.first, end, MAX_USE_DEPTH, None)?;
+    Ok(expansion.lists.lengths())
 }
 
 // The imports of a use item and the names of their paths, from the front of two lists; answers their lengths.
@@ -190,6 +161,7 @@ pub fn expand(
 ) -> Result<Lengths, Refusal>
     ensures { MatchResult result (λ n. (n.imports ≤ length imports.old) × (n.names ≤ length names.old)) (λ _. (imports.new ≡ imports.old) × (names.new ≡ names.old)) }
 {
+    // Two lists each way, so a closure that is run twice would be no plainer than two calls.
     let needed = expand_all(tables, uses, &mut [], &mut [])?;
     if needed.imports > imports.len() || needed.names > names.len() {
         return Err(Refusal::TooShort(Needed::Imports {

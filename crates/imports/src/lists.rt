@@ -12,6 +12,7 @@ pub struct Lengths {
     pub names: usize,
 }
 
+// The lengths are counts of their own, because they go on where a list has no room.
 #[derive(Drop)]
 pub(crate) struct ImportLists<'i, 'n> {
     imports: &'i mut [Import],
@@ -26,23 +27,6 @@ pub(crate) struct ImportHead {
     pub(crate) kind: ImportKind,
     pub(crate) alias: Option<ImportAlias>,
     pub(crate) place: u32,
-}
-
-// Writes a value at an index, if there is room.
-fn put<T: Copy>(list: &mut [T], at: usize, value: T) {
-    if at < list.len() {
-        list[at] = value;
-    }
-}
-
-// Writes names from an index on, as far as there is room; answers the index after them.
-pub(crate) fn lay(list: &mut [Name], at: usize, names: &[Name]) -> usize {
-    let mut next = at;
-    for name in names {
-        put(list, next, *name);
-        next = next.saturating_add(1);
-    }
-    next
 }
 
 impl<'i, 'n> ImportLists<'i, 'n> {
@@ -65,25 +49,35 @@ impl ImportLists<'_, '_> {
 
     // One import more, whose names are `front` and then `own`.
     pub(crate) fn emit(&mut self, head: ImportHead, front: &[Name], own: &[Name]) {
-        let first = self.lengths.names;
-        let middle = lay(self.names, first, front);
-        let end = lay(self.names, middle, own);
-        let path = ImportPath {
-            kind: head.path,
-            first,
-            count: end.saturating_sub(first),
-        };
+        let Lengths {
+            imports: at,
+            names: first,
+        } = self.lengths;
+        for (slot, name) in self
+            .names
+            .iter_mut()
+            .skip(first)
+            .zip(front.iter().chain(own))
+        {
+            *slot = *name;
+        }
+        let count = front.len().saturating_add(own.len());
         let import = Import {
-            path,
+            path: ImportPath {
+                kind: head.path,
+                first,
+                count,
+            },
             kind: head.kind,
             alias: head.alias,
             place: head.place,
         };
-        let at = self.lengths.imports;
-        put(self.imports, at, import);
+        if let Some(slot) = self.imports.get_mut(at) {
+            *slot = import;
+        }
         self.lengths = Lengths {
             imports: at.saturating_add(1),
-            names: end,
+            names: first.saturating_add(count),
         };
     }
 }

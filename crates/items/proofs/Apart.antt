@@ -1,14 +1,14 @@
 -- Recorded visibilities of which no two are alike.
-use Rattle.std.proofs.Common.{◌≡◌, ℕ, ◌<◌, Bool, true, false, List, [], ◌∷◌, ◌++◌, length, Some, Ok, Err, Option, Result, IfOk, sym, ap, ◌∙◌, MatchResult}
+use Rattle.std.proofs.Common.{◌≡◌, ℕ, ◌<◌, true, false, List, [], ◌∷◌, ◌++◌, length, Ok, Err, Result, IfOk, ap, ◌∙◌, MatchResult}
 use Rattle.syntax.specs.declared.refusal.Refusal.{Refusal}
 use Rattle.syntax.specs.declared.refusal.Refusal.TheVariants.{TableFull}
 use Rattle.tables.specs.Held.{held}
-use Rattle.tables.specs.KeyInsertion.{KeyInserted}
-use Rattle.tables.specs.Sets.{distinct, has, same_at}
+use Rattle.tables.specs.Insertion.{KeyInserted}
+use Rattle.tables.specs.Sets.{distinct, has}
 use Rattle.tables.specs.declared.table.Table.{Table}
 use Rattle.tables.proofs.Rows.{length-held-le}
-use Rattle.tables.proofs.Sets.{decided, distinct_push, place-below}
-use Rattle.items.specs.Recorded.{RoomFor, same_visibility, visibility_equality, visibility_equivalence}
+use Rattle.tables.proofs.Sets.{distinct_push, place-below}
+use Rattle.items.specs.Recorded.{RoomFor, same_visibility, visibility_equivalence}
 use Rattle.items.specs.declared.visibility.RawVisibility.{RawVisibility}
 
 pub apart_none : (xs : List RawVisibility) → xs ≡ [] → distinct same_visibility xs ≡ true
@@ -20,9 +20,6 @@ pub apart_pushed : (r : Result ℕ Refusal) (old new : List RawVisibility) (v : 
     → has same_visibility old v ≡ false → distinct same_visibility old ≡ true → distinct same_visibility new ≡ true
 apart_pushed (Ok i) old new v h absent d = ap (distinct same_visibility) h.2 ∙ distinct_push same_visibility old v visibility_equivalence absent d
 apart_pushed (Err e) old new v h absent d = ap (distinct same_visibility) h.2 ∙ d
-
-pub same_at_lem : (b : Bool) (o : Option RawVisibility) (row key : RawVisibility) → o ≡ Some row → (b ≡ true → row ≡ key) → (b ≡ false → row ≡ key → ⊥) → b ≡ same_at same_visibility o key
-same_at_lem b o row key e equal other = decided same_visibility visibility_equality b row key equal other ∙ sym (ap (λ (x : Option RawVisibility). same_at same_visibility x key) e)
 
 -- a number that is answered is below 128
 pub below_limit : (rows : Table RawVisibility 128) (v : RawVisibility) (r : Result ℕ Refusal) (new : List RawVisibility)

@@ -1,5 +1,7 @@
 -- Small facts about records.
 use Rattle.std.specs.Prelude.{Bool, true, false, ◌==◌}
+use Rattle.tables.specs.declared.part.Part.{Part}
+use Rattle.items.specs.declared.attrs.Attr.{Attr}
 use Rattle.items.specs.declared.attrs.AttrsOrCfg.{AttrsOrCfg}
 use Rattle.items.specs.declared.attrs.AttrsOrCfg.TheVariants.{Enabled, CfgDisabled}
 use Rattle.items.specs.declared.records.FieldsShape.{FieldsShape}
@@ -21,3 +23,13 @@ is_explicit Implicit = false
 abbrev pub is_empty : AttrsOrCfg → Bool
 is_empty (Enabled attrs) = attrs.count == 0
 is_empty (CfgDisabled cfg attrs) = false
+
+-- the part of the table that a list is
+abbrev pub part_of : AttrsOrCfg → Part Attr
+part_of (Enabled list) = list
+part_of (CfgDisabled cfg list) = list
+
+-- the list with another part
+abbrev pub with_part : AttrsOrCfg → Part Attr → AttrsOrCfg
+with_part (Enabled list) other = Enabled other
+with_part (CfgDisabled cfg list) other = CfgDisabled cfg other

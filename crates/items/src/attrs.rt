@@ -2,10 +2,11 @@
 ghost use Rattle.std.specs.Prelude.{◌≡◌};
 ghost use Rattle.items.specs.Attributes.{Attribute};
 ghost use Rattle.items.specs.Merging.{MergingLaws};
-ghost use Rattle.items.specs.Records.{is_empty};
+ghost use Rattle.items.specs.Records.{is_empty, part_of, with_part};
 
 use crate::ids::SyntaxContext;
 use paths::interned::PathId;
+use tables::part::Part;
 
 // What follows an attribute's path, by the number of its text.
 #[derive(Clone, Copy)]
@@ -22,11 +23,7 @@ pub struct Attr {
 }
 
 // A part of a tree's table of attributes.
-#[derive(Clone, Copy)]
-pub struct AttrsOwned {
-    pub first: u32,
-    pub count: u32,
-}
+pub type AttrsOwned = Part<Attr>;
 
 // A false condition, by the number of its text.
 #[derive(Clone, Copy)]
@@ -50,11 +47,28 @@ impl AttrsOrCfg {
             AttrsOrCfg::CfgDisabled { .. } => false,
         }
     }
+
+    // The part of the table that the list is.
+    pub fn part(self) -> AttrsOwned
+        ensures { result ≡ part_of self }
+    {
+        match self {
+            AttrsOrCfg::Enabled { attrs } | AttrsOrCfg::CfgDisabled { attrs, .. } => attrs,
+        }
+    }
+
+    // The list with another part of the table.
+    pub fn with_part(self, attrs: AttrsOwned) -> AttrsOrCfg
+        ensures { result ≡ with_part self attrs }
+    {
+        match self {
+            AttrsOrCfg::Enabled { .. } => AttrsOrCfg::Enabled { attrs },
+            AttrsOrCfg::CfgDisabled { cfg, .. } => AttrsOrCfg::CfgDisabled { cfg, attrs },
+        }
+    }
 }
 
 // Merging attribute lists is what its laws say, in the contract.
-pub fn merging_stands() -> u8
+pub fn merging_stands()
     ensures { MergingLaws Attribute }
-{
-    0
-}
+{}

@@ -45,11 +45,9 @@ impl ModItemId {
     pub fn new_big(index: u32) -> Result<ModItemId, Refusal>
         ensures { MatchResult result (λ id. (id.index ≡ 2 * index + 1) × (index < 2147483647)) (λ e. (e ≡ IndexTooLarge) × (2147483647 ≤ index)) }
     {
-        if index >= TOO_LARGE {
-            return Err(Refusal::IndexTooLarge);
-        }
+        let small = ModItemId::new_small(index)?;
         Ok(ModItemId {
-            index: 2 * index + 1,
+            index: small.index + 1,
         })
     }
 
@@ -80,7 +78,7 @@ pub fn ids_stand(small: u32, big: u32) -> bool
     };
     let sizes = a.is_small() && !b.is_small();
     let rows = a.row() == small as usize && b.row() == big as usize;
-    sizes && rows && a.index != b.index
+    sizes && rows && a != b
 }
 
 // Names a visibility of a tree.

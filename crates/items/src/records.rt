@@ -1,33 +1,24 @@
 // The record of each kind of item.
-ghost use Rattle.std.specs.Prelude.{◌≡◌, ◌<◌, MatchOption};
-ghost use Rattle.items.specs.Marks.{expand_mark, shape_mark};
+ghost use Rattle.std.specs.Prelude.{◌≡◌, ◌<◌, Some, MatchResult};
+ghost use Rattle.items.specs.Marks.{expand_mark, expand_word, shape_mark, unknown_text};
 ghost use Rattle.items.specs.Records.{has_ctor};
 
-use crate::ids::{RawVisibilityId, SyntaxContext};
-use crate::use_tree::ImportAlias;
+use crate::ids::{ModItemId, RawVisibilityId, SyntaxContext};
+use crate::use_tree::{ImportAlias, UseTree};
 use paths::interned::PathId;
 use paths::name::Name;
+use std::error::Error;
+use std::fmt;
+use tables::part::Part;
 
 // A part of a tree's table of children.
-#[derive(Clone, Copy)]
-pub struct ItemIds {
-    pub first: u32,
-    pub count: u32,
-}
+pub type ItemIds = Part<ModItemId>;
 
 // A part of a tree's table of use trees.
-#[derive(Clone, Copy)]
-pub struct UseTrees {
-    pub first: u32,
-    pub count: u32,
-}
+pub type UseTrees = Part<UseTree>;
 
 // A part of a tree's table of constructor visibilities.
-#[derive(Clone, Copy)]
-pub struct VisibilityIds {
-    pub first: u32,
-    pub count: u32,
-}
+pub type VisibilityIds = Part<RawVisibilityId>;
 
 #[derive(Clone, Copy)]
 pub struct Use {
@@ -136,17 +127,58 @@ pub enum ExpandTo {
     Expr,
 }
 
-impl ExpandTo {
-    pub fn of_mark(mark: u32) -> Option<ExpandTo>
-        ensures { MatchOption result (4 < mark) (λ x. expand_mark x ≡ mark) }
-    {
+impl fmt::Display for ExpandTo {
+    ghost output = { λ expand. Some (expand_word expand) };
+
+    fn fmt<W: fmt::Write>(&self, f: &mut fmt::Formatter<W>) -> fmt::Result {
+        f.write_str(self.as_str())
+    }
+}
+
+// A mark that says nothing of its node.
+#[derive(Clone, Copy, PartialEq, Eq, Debug)]
+pub struct UnknownMark {
+    pub mark: u32,
+}
+
+impl fmt::Display for UnknownMark {
+    ghost output = { λ unknown. Some (unknown_text unknown) };
+
+    fn fmt<W: fmt::Write>(&self, f: &mut fmt::Formatter<W>) -> fmt::Result {
+        write!(f, "mark {} says nothing", self.mark)
+    }
+}
+
+impl Error for UnknownMark {}
+
+impl TryFrom<u32> for ExpandTo {
+    type Error = UnknownMark;
+
+    ghost try_from_gives = { λ mark r. MatchResult r (λ x. expand_mark x ≡ mark) (λ e. (e.mark ≡ mark) × (4 < mark)) };
+
+    fn try_from(mark: u32) -> Result<ExpandTo, UnknownMark> {
         match mark {
-            0 => Some(ExpandTo::Statements),
-            1 => Some(ExpandTo::Items),
-            2 => Some(ExpandTo::Pattern),
-            3 => Some(ExpandTo::Type),
-            4 => Some(ExpandTo::Expr),
-            _ => None,
+            0 => Ok(ExpandTo::Statements),
+            1 => Ok(ExpandTo::Items),
+            2 => Ok(ExpandTo::Pattern),
+            3 => Ok(ExpandTo::Type),
+            4 => Ok(ExpandTo::Expr),
+            _ => Err(UnknownMark { mark }),
+        }
+    }
+}
+
+impl ExpandTo {
+    // The name of the variant.
+    pub fn as_str(self) -> &'static str
+        ensures { result.now ≡ expand_word self }
+    {
+        match self {
+            ExpandTo::Statements => "Statements",
+            ExpandTo::Items => "Items",
+            ExpandTo::Pattern => "Pattern",
+            ExpandTo::Type => "Type",
+            ExpandTo::Expr => "Expr",
         }
     }
 }
@@ -177,18 +209,22 @@ pub enum FieldsShape {
     Tuple,
 }
 
-impl FieldsShape {
-    pub fn of_mark(mark: u32) -> Option<FieldsShape>
-        ensures { MatchOption result (2 < mark) (λ x. shape_mark x ≡ mark) }
-    {
+impl TryFrom<u32> for FieldsShape {
+    type Error = UnknownMark;
+
+    ghost try_from_gives = { λ mark r. MatchResult r (λ x. shape_mark x ≡ mark) (λ e. (e.mark ≡ mark) × (2 < mark)) };
+
+    fn try_from(mark: u32) -> Result<FieldsShape, UnknownMark> {
         match mark {
-            0 => Some(FieldsShape::Record),
-            1 => Some(FieldsShape::Unit),
-            2 => Some(FieldsShape::Tuple),
-            _ => None,
+            0 => Ok(FieldsShape::Record),
+            1 => Ok(FieldsShape::Unit),
+            2 => Ok(FieldsShape::Tuple),
+            _ => Err(UnknownMark { mark }),
         }
     }
+}
 
+impl FieldsShape {
     pub fn has_value_ns_ctor(self) -> bool
         ensures { result ≡ has_ctor self }
     {

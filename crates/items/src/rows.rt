@@ -41,20 +41,33 @@ pub enum ModItem {
 }
 
 #[derive(Clone, Copy)]
-pub struct SmallRow {
+pub struct Row<T> {
     pub id: FileAstId,
-    pub item: SmallModItem,
+    pub item: T,
     // none where the list is enabled and empty
     pub attrs: Option<AttrsOrCfg>,
 }
 
-#[derive(Clone, Copy)]
-pub struct BigRow {
-    pub id: FileAstId,
-    pub item: BigModItem,
-    // none where the list is enabled and empty
-    pub attrs: Option<AttrsOrCfg>,
+impl<T> Row<T> {
+    // The row with another record in place of its own.
+    pub fn map<U, F: FnOnce(T) -> U>(self, f: F) -> Row<U>
+        requires { F.pre f self.item }
+        ensures item { F.post f self.item result.item }
+        ensures id { result.id ≡ self.id }
+        ensures attrs { result.attrs ≡ self.attrs }
+    {
+        let Row { id, item, attrs } = self;
+        Row {
+            id,
+            item: f(item),
+            attrs,
+        }
+    }
 }
+
+pub type SmallRow = Row<SmallModItem>;
+
+pub type BigRow = Row<BigModItem>;
 
 // What an id answers: the record and its node.
 #[derive(Clone, Copy)]

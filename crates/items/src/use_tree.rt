@@ -10,22 +10,15 @@ pub enum ImportAlias {
     Alias(Name),
 }
 
+// What a node of a use tree is; its paths are numbers, or the paths themselves.
 #[derive(Clone, Copy)]
-pub enum UseTreeKind {
+pub enum UseTreeKind<P = PathId> {
     // `path::to::Item as Renamed`
-    Single {
-        path: PathId,
-        alias: Option<ImportAlias>,
-    },
+    Single { path: P, alias: Option<ImportAlias> },
     // `path::*`; `*` alone can stand in a group
-    Glob {
-        path: Option<PathId>,
-    },
+    Glob { path: Option<P> },
     // `prefix::{..}`; the members stand after it, up to `end`
-    Prefixed {
-        prefix: Option<PathId>,
-        end: u32,
-    },
+    Prefixed { prefix: Option<P>, end: u32 },
 }
 
 #[derive(Clone, Copy)]

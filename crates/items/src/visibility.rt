@@ -1,5 +1,5 @@
 // Visibilities, as they are written and as a tree holds them.
-ghost use Rattle.std.specs.Prelude.{◌≡◌, ◌<◌, true, false, List, [], length, IfOk, ◌≢◌};
+ghost use Rattle.std.specs.Prelude.{◌≡◌, ◌<◌, true, List, [], length, IfOk};
 ghost use Rattle.tables.specs.Held.{held, marked};
 ghost use Rattle.tables.specs.Sets.{distinct};
 ghost use Rattle.items.specs.Recorded.{Recorded, RoomFor, same_visibility, visibility_equivalence};
@@ -26,10 +26,7 @@ impl VisibilityExplicitness {
     pub fn is_explicit(self) -> bool
         ensures { result ≡ is_explicit self }
     {
-        match self {
-            VisibilityExplicitness::Explicit => true,
-            VisibilityExplicitness::Implicit => false,
-        }
+        self == VisibilityExplicitness::Explicit
     }
 }
 
@@ -62,13 +59,6 @@ pub struct Visibilities {
     ghost apart: { (distinct same_visibility (held rows) ≡ true) × (distinct same_visibility (marked rows) ≡ true) },
 }
 
-fn same(a: RawVisibility, b: RawVisibility) -> bool
-    ensures equal { result ≡ true → a ≡ b }
-    ensures other { result ≡ false → a ≢ b }
-{
-    a == b
-}
-
 impl KeySet<RawVisibility> for Visibilities {
     ghost Meant = { Row };
 
@@ -93,10 +83,7 @@ impl KeySet<RawVisibility> for Visibilities {
     }
 
     fn is_alike(&self, index: usize, key: &RawVisibility) -> bool {
-        match self.rows.get(index) {
-            Some(row) => same(row, *key),
-            None => false,
-        }
+        self.rows.get(index) == Some(*key)
     }
 
     fn push_key(&mut self, key: &RawVisibility) -> Result<usize, Refusal> {
@@ -148,12 +135,16 @@ impl Visibilities {
     pub fn get(&self, id: RawVisibilityId) -> Option<RawVisibility>
         ensures { result ≡ visibility_at (held self.now.rows) id.number }
     {
-        match id.number {
-            4_294_967_295 => Some(RawVisibility::Public),
-            4_294_967_294 => Some(RawVisibility::PubSelf(VisibilityExplicitness::Implicit)),
-            4_294_967_293 => Some(RawVisibility::PubSelf(VisibilityExplicitness::Explicit)),
-            4_294_967_292 => Some(RawVisibility::PubCrate),
-            row => self.rows.get(row as usize),
+        match id {
+            RawVisibilityId::PUB => Some(RawVisibility::Public),
+            RawVisibilityId::PRIV_IMPLICIT => {
+                Some(RawVisibility::PubSelf(VisibilityExplicitness::Implicit))
+            }
+            RawVisibilityId::PRIV_EXPLICIT => {
+                Some(RawVisibility::PubSelf(VisibilityExplicitness::Explicit))
+            }
+            RawVisibilityId::PUB_CRATE => Some(RawVisibility::PubCrate),
+            RawVisibilityId { number } => self.rows.get(number as usize),
         }
     }
 

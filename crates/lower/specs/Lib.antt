@@ -1,0 +1,2 @@
+pub mod AttrNodes
+pub mod Keeping

@@ -2,10 +2,12 @@
 ghost use Rattle.std.specs.Prelude.{◌≡◌};
 ghost use Rattle.syntax.specs.Children.{StandsIn};
 ghost use Rattle.paths.specs.Reading.{meant};
-ghost use Rattle.items.specs.Attributes.{attribute_of, input_of, text_of};
-ghost use Rattle.tree_tables.specs.Contents.{marked_of};
+ghost use Rattle.items.specs.Attributes.{attribute_of, text_of};
+ghost use Rattle.lower.specs.AttrNodes.{attr_node};
+ghost use Rattle.lower.specs.Keeping.{Keeps};
 
-use items::attrs::{Attr, AttrInput, AttrsOrCfg, AttrsOwned, CfgExpr};
+use crate::lowering::Lowering;
+use items::attrs::{Attr, AttrInput, AttrsOrCfg, CfgExpr};
 use items::ids::SyntaxContext;
 use paths::mod_path::ModPath;
 use paths::name::Name;
@@ -13,31 +15,38 @@ use syntax::kind::SyntaxKind;
 use syntax::node::Node;
 use syntax::refusal::Refusal;
 use syntax::source::SyntaxSource;
-use syntax::walk::{NodeRef, child_of_kind, sibling_at};
-use tree_tables::tree::TreeTables;
+use syntax::walk::{NodeRef, child_of_kind, children};
 
 // A text's number, unless it is 0.
 fn text_of(node: Node) -> Option<u32>
     ensures { result ≡ text_of node }
 {
-    if node.text == 0 {
-        None
-    } else {
-        Some(node.text)
-    }
+    (node.text != 0).then_some(node.text)
 }
 
-// What follows an attribute's path.
-fn input_of(attr: Node) -> Option<AttrInput>
-    ensures { result ≡ input_of attr }
-{
-    let Some(text) = text_of(attr) else {
-        return None;
-    };
-    match attr.mark {
-        1 => Some(AttrInput::Literal(text)),
-        2 => Some(AttrInput::TokenTree(text)),
-        _ => None,
+// What an Attr node is.
+#[derive(Clone, Copy)]
+enum AttrNode {
+    // an attribute, with what follows its path
+    Attribute(Option<AttrInput>),
+    // a true condition
+    CfgTrue,
+    CfgFalse(CfgExpr),
+}
+
+impl From<Node> for AttrNode {
+    ghost from_gives = { λ attr result. result ≡ attr_node attr };
+
+    fn from(attr: Node) -> AttrNode {
+        match attr.mark {
+            1 => AttrNode::Attribute(text_of(attr).map(AttrInput::Literal)),
+            2 => AttrNode::Attribute(text_of(attr).map(AttrInput::TokenTree)),
+            3 => AttrNode::CfgTrue,
+            4 => AttrNode::CfgFalse(CfgExpr {
+                text: text_of(attr),
+            }),
+            _ => AttrNode::Attribute(None),
+        }
     }
 }
 
@@ -45,80 +54,46 @@ fn input_of(attr: Node) -> Option<AttrInput>
 fn path_of<S: SyntaxSource>(source: &S, attr: NodeRef) -> ModPath
     ensures { StandsIn (S.SyntaxSource.meaning source.now) attr → meant result ≡ (attribute_of (S.SyntaxSource.meaning source.now) attr).path }
 {
-    let Some(path) = child_of_kind(source, attr, SyntaxKind::Path) else {
-        return ModPath::from_name(Name::Missing);
-    };
-    match ModPath::from_src(source, path) {
-        Some(path) => path,
-        None => ModPath::from_name(Name::Missing),
-    }
+    child_of_kind(source, attr, SyntaxKind::Path)
+        .and_then(|path| ModPath::from_src(source, path))
+        .unwrap_or_else(|| ModPath::from_name(Name::Missing))
 }
 
-// What one Attr node does to the list that is collected.
-#[derive(Clone, Copy)]
-enum Collected {
-    GoOn,
-    Disabled(CfgExpr),
-}
-
-// The attributes of a node; none where the list is enabled and empty.
-pub fn lower_attrs<S: SyntaxSource>(
-    tables: &mut TreeTables,
-    source: &S,
-    owner: NodeRef,
-) -> Result<Option<AttrsOrCfg>, Refusal>
-    ensures { marked_of tables.new ≡ marked_of tables.old }
-{
-    let first = tables.attr_count();
-    let mut at = owner.first_child();
-    while let Some(child) = sibling_at(source, at, owner.node.end) {
-        if child.node.kind != SyntaxKind::Attr.number() {
-            break;
+impl<S: SyntaxSource> Lowering<'_, '_, S> {
+    // The attributes of a node; none where the list is enabled and empty.
+    pub fn lower_attrs(&mut self, owner: NodeRef) -> Result<Option<AttrsOrCfg>, Refusal>
+        ensures { Keeps self.old self.new }
+    {
+        let first = self.tables.attr_count();
+        let source = self.source;
+        for child in children(source, owner) {
+            if !child.is(SyntaxKind::Attr) {
+                break;
+            }
+            if let Some(cfg) = self.lower_attr(child)? {
+                let attrs = self.tables.attrs_from(first);
+                return Ok(Some(AttrsOrCfg::CfgDisabled { cfg, attrs }));
+            }
         }
-        if let Collected::Disabled(cfg) = lower_attr(tables, source, child)? {
-            let attrs = attrs_from(tables, first);
-            return Ok(Some(AttrsOrCfg::CfgDisabled { cfg, attrs }));
-        }
-        at = child.node.end;
+        let attrs = AttrsOrCfg::Enabled {
+            attrs: self.tables.attrs_from(first),
+        };
+        Ok((!attrs.is_empty()).then_some(attrs))
     }
-    let attrs = AttrsOrCfg::Enabled {
-        attrs: attrs_from(tables, first),
-    };
-    if attrs.is_empty() {
-        Ok(None)
-    } else {
-        Ok(Some(attrs))
-    }
-}
 
-fn lower_attr<S: SyntaxSource>(
-    tables: &mut TreeTables,
-    source: &S,
-    attr: NodeRef,
-) -> Result<Collected, Refusal>
-    ensures { marked_of tables.new ≡ marked_of tables.old }
-{
-    match attr.node.mark {
-        3 => Ok(Collected::GoOn),
-        4 => Ok(Collected::Disabled(CfgExpr {
-            text: text_of(attr.node),
-        })),
-        _ => {
-            let path = tables.intern(&path_of(source, attr))?;
-            let input = input_of(attr.node);
-            let ctxt = SyntaxContext::ROOT;
-            tables.push_attr(Attr { path, input, ctxt })?;
-            Ok(Collected::GoOn)
+    // Records an attribute; answers a false condition, which ends the list.
+    fn lower_attr(&mut self, attr: NodeRef) -> Result<Option<CfgExpr>, Refusal>
+        ensures { Keeps self.old self.new }
+    {
+        match AttrNode::from(attr.node) {
+            AttrNode::CfgTrue => Ok(None),
+            AttrNode::CfgFalse(cfg) => Ok(Some(cfg)),
+            AttrNode::Attribute(input) => {
+                let path = self.tables.intern(&path_of(self.source, attr))?;
+                let ctxt = SyntaxContext::ROOT;
+                self.tables.push_attr(Attr { path, input, ctxt })?;
+                Ok(None)
+            }
         }
-    }
-}
-
-// The attributes from an index on.
-fn attrs_from(tables: &TreeTables, first: usize) -> AttrsOwned {
-    let len = tables.attr_count();
-    let first = first.min(len);
-    AttrsOwned {
-        first: first as u32,
-        count: (len - first) as u32,
     }
 }

@@ -3,6 +3,7 @@
 
 pub mod attrs;
 pub mod big;
+pub mod lowering;
 pub mod small;
 pub mod use_tree;
 pub mod visibility;

@@ -9,15 +9,17 @@ ghost use Rattle.items.specs.declared.visibility.RawVisibility.TheVariants.{PubS
 ghost use Rattle.items.specs.declared.visibility.VisibilityExplicitness.TheVariants.{Implicit};
 ghost use Rattle.items.specs.declared.visibility.WrittenVisibility.TheVariants.{PubSelf};
 ghost use Rattle.tree_tables.specs.Contents.{marked_of};
+ghost use Rattle.lower.specs.Keeping.{Keeps};
 
+use crate::lowering::Lowering;
 use items::ids::RawVisibilityId;
-use items::records::{StructValueNsCtor, VisibilityIds};
+use items::records::StructValueNsCtor;
 use items::visibility::{RawVisibility, VisibilityExplicitness, WrittenVisibility};
 use paths::mod_path::{ModPath, PathKind};
 use syntax::kind::SyntaxKind;
 use syntax::refusal::Refusal;
 use syntax::source::SyntaxSource;
-use syntax::walk::{NodeRef, child_of_kind, sibling_at};
+use syntax::walk::{NodeRef, child_of_kind, children};
 use tree_tables::tree::TreeTables;
 
 fn private_vis() -> WrittenVisibility
@@ -33,6 +35,7 @@ pub fn visibility_from_ast<S: SyntaxSource>(source: &S, node: NodeRef) -> Writte
     let Some(vis) = child_of_kind(source, node, SyntaxKind::Vis) else {
         return private_vis();
     };
+    // The mark is read here alone: an enum of the marks would repeat these arms.
     match vis.node.mark {
         0 => WrittenVisibility::Public,
         1 => WrittenVisibility::PubCrate,
@@ -46,27 +49,21 @@ pub fn visibility_from_ast<S: SyntaxSource>(source: &S, node: NodeRef) -> Writte
 fn visibility_in<S: SyntaxSource>(source: &S, vis: NodeRef) -> WrittenVisibility
     ensures { StandsIn (S.SyntaxSource.meaning source.now) vis → meant_visibility result ≡ restricted (path_in (S.SyntaxSource.meaning source.now) (child_of PathNode (S.SyntaxSource.meaning source.now) vis)) }
 {
-    let Some(path) = child_of_kind(source, vis, SyntaxKind::Path) else {
-        return private_vis();
-    };
-    let Some(path) = ModPath::from_src(source, path) else {
-        return private_vis();
-    };
-    WrittenVisibility::Module(path)
+    child_of_kind(source, vis, SyntaxKind::Path)
+        .and_then(|path| ModPath::from_src(source, path))
+        .map_or_else(private_vis, WrittenVisibility::Module)
 }
 
 // The visibility of the first private field.
 fn private_field<S: SyntaxSource>(source: &S, strukt: NodeRef) -> Option<VisibilityExplicitness>
     ensures { StandsIn (S.SyntaxSource.meaning source.now) strukt → result ≡ private_field (S.SyntaxSource.meaning source.now) strukt }
 {
-    let mut at = strukt.first_child();
-    while let Some(child) = sibling_at(source, at, strukt.node.end) {
+    for child in children(source, strukt) {
         if child.is(SyntaxKind::Field) {
             if let WrittenVisibility::PubSelf(explicitness) = visibility_from_ast(source, child) {
                 return Some(explicitness);
             }
         }
-        at = child.node.end;
     }
     None
 }
@@ -81,17 +78,7 @@ enum Least {
     Modules(usize),
 }
 
-pub fn lower_visibility<S: SyntaxSource>(
-    tables: &mut TreeTables,
-    source: &S,
-    item: NodeRef,
-) -> Result<RawVisibilityId, Refusal>
-    ensures { marked_of tables.new ≡ marked_of tables.old }
-{
-    let visibility = visibility_from_ast(source, item);
-    alloc_visibility(tables, &visibility)
-}
-
+// The number of a visibility; the path of a module's goes into the tables.
 pub fn alloc_visibility(
     tables: &mut TreeTables,
     visibility: &WrittenVisibility,
@@ -116,121 +103,100 @@ fn alloc_module_visibility(
     tables.record_visibility(RawVisibility::Module(path, VisibilityExplicitness::Explicit))
 }
 
-// The constructor of a tuple struct.
-pub fn tuple_struct_ctor_vis<S: SyntaxSource>(
-    tables: &mut TreeTables,
-    source: &S,
-    strukt: NodeRef,
-) -> Result<StructValueNsCtor, Refusal>
-    ensures { marked_of tables.new ≡ marked_of tables.old }
-{
-    let own = visibility_from_ast(source, strukt);
-    // `pub(self)` <= anything.
-    if let WrittenVisibility::PubSelf(explicitness) = own {
-        return Ok(StructValueNsCtor::ValueNsCtorWithVis(private_id(explicitness)));
+impl<S: SyntaxSource> Lowering<'_, '_, S> {
+    pub fn lower_visibility(&mut self, item: NodeRef) -> Result<RawVisibilityId, Refusal>
+        ensures { Keeps self.old self.new }
+    {
+        let visibility = visibility_from_ast(self.source, item);
+        alloc_visibility(self.tables, &visibility)
     }
-    // If there is a field private, the minimal visibility is private.
-    if let Some(explicitness) = private_field(source, strukt) {
-        return Ok(StructValueNsCtor::ValueNsCtorWithVis(private_id(explicitness)));
-    }
-    let least = narrowed(tables, Least::Public, &own)?;
-    let least = narrowed_by_fields(tables, source, strukt, least)?;
-    Ok(ctor_of(tables, least))
-}
 
-fn narrowed_by_fields<S: SyntaxSource>(
-    tables: &mut TreeTables,
-    source: &S,
-    strukt: NodeRef,
-    own: Least,
-) -> Result<Least, Refusal>
-    ensures { marked_of tables.new ≡ marked_of tables.old }
-{
-    let mut least = own;
-    let mut at = strukt.first_child();
-    while let Some(child) = sibling_at(source, at, strukt.node.end) {
-        if child.is(SyntaxKind::Field) {
-            let field = visibility_from_ast(source, child);
-            least = narrowed(tables, least, &field)?;
+    // The constructor of a tuple struct.
+    pub fn tuple_struct_ctor_vis(&mut self, strukt: NodeRef) -> Result<StructValueNsCtor, Refusal>
+        ensures { Keeps self.old self.new }
+    {
+        let own = visibility_from_ast(self.source, strukt);
+        // `pub(self)` <= anything.
+        if let WrittenVisibility::PubSelf(explicitness) = own {
+            return Ok(StructValueNsCtor::ValueNsCtorWithVis(private_id(explicitness)));
         }
-        at = child.node.end;
-    }
-    Ok(least)
-}
-
-// The least visibility with one more.
-fn narrowed(
-    tables: &mut TreeTables,
-    least: Least,
-    visibility: &WrittenVisibility,
-) -> Result<Least, Refusal>
-    ensures { marked_of tables.new ≡ marked_of tables.old }
-{
-    match visibility {
-        WrittenVisibility::Module(path) => {
-            let id = alloc_module_visibility(tables, path)?;
-            narrowed_to_module(tables, least, id)
+        // If there is a field private, the minimal visibility is private.
+        if let Some(explicitness) = private_field(self.source, strukt) {
+            return Ok(StructValueNsCtor::ValueNsCtorWithVis(private_id(explicitness)));
         }
-        // `pub(in module) | pub(crate)` <= `pub(crate) | pub`.
-        WrittenVisibility::PubCrate => match least {
-            Least::Public => Ok(Least::PubCrate),
-            other => Ok(other),
-        },
-        WrittenVisibility::Public | WrittenVisibility::PubSelf(_) => Ok(least),
+        let least = self.narrowed(Least::Public, &own)?;
+        let least = self.narrowed_by_fields(strukt, least)?;
+        Ok(self.ctor_of(least))
     }
-}
 
-fn narrowed_to_module(
-    tables: &mut TreeTables,
-    least: Least,
-    id: RawVisibilityId,
-) -> Result<Least, Refusal>
-    ensures { marked_of tables.new ≡ marked_of tables.old }
-{
-    match least {
-        Least::Public | Least::PubCrate => Ok(Least::Module(id)),
-        Least::Module(other) => {
-            if other.number == id.number {
-                return Ok(least);
+    fn narrowed_by_fields(&mut self, strukt: NodeRef, own: Least) -> Result<Least, Refusal>
+        ensures { Keeps self.old self.new }
+    {
+        let mut least = own;
+        let source = self.source;
+        for child in children(source, strukt) {
+            if child.is(SyntaxKind::Field) {
+                let field = visibility_from_ast(source, child);
+                least = self.narrowed(least, &field)?;
             }
-            let first = tables.ctor_count();
-            tables.push_ctor(other)?;
-            tables.push_ctor(id)?;
-            Ok(Least::Modules(first))
         }
-        Least::Modules(first) => {
-            if !is_listed(tables, first, id) {
-                tables.push_ctor(id)?;
+        Ok(least)
+    }
+
+    // The least visibility with one more.
+    fn narrowed(&mut self, least: Least, visibility: &WrittenVisibility) -> Result<Least, Refusal>
+        ensures { Keeps self.old self.new }
+    {
+        match visibility {
+            WrittenVisibility::Module(path) => {
+                let id = alloc_module_visibility(self.tables, path)?;
+                self.narrowed_to_module(least, id)
             }
-            Ok(least)
+            // `pub(in module) | pub(crate)` <= `pub(crate) | pub`.
+            WrittenVisibility::PubCrate => match least {
+                Least::Public => Ok(Least::PubCrate),
+                other => Ok(other),
+            },
+            WrittenVisibility::Public | WrittenVisibility::PubSelf(_) => Ok(least),
         }
     }
-}
 
-// Whether the list that begins at `first` and is the last one has this visibility.
-fn is_listed(tables: &TreeTables, first: usize, id: RawVisibilityId) -> bool {
-    for index in first..tables.ctor_count() {
-        if let Some(other) = tables.ctor_at(index) {
-            if other.number == id.number {
-                return true;
+    fn narrowed_to_module(&mut self, least: Least, id: RawVisibilityId) -> Result<Least, Refusal>
+        ensures { Keeps self.old self.new }
+    {
+        match least {
+            Least::Public | Least::PubCrate => Ok(Least::Module(id)),
+            Least::Module(other) if other == id => Ok(least),
+            Least::Module(other) => {
+                let first = self.tables.ctor_count();
+                self.tables.push_ctor(other)?;
+                self.tables.push_ctor(id)?;
+                Ok(Least::Modules(first))
+            }
+            Least::Modules(first) => {
+                if !self.is_listed(first, id) {
+                    self.tables.push_ctor(id)?;
+                }
+                Ok(least)
             }
         }
     }
-    false
-}
 
-fn ctor_of(tables: &TreeTables, least: Least) -> StructValueNsCtor {
-    match least {
-        Least::Public => StructValueNsCtor::ValueNsCtorWithVis(RawVisibilityId::PUB),
-        Least::PubCrate => StructValueNsCtor::ValueNsCtorWithVis(RawVisibilityId::PUB_CRATE),
-        Least::Module(id) => StructValueNsCtor::ValueNsCtorWithVis(id),
-        Least::Modules(first) => {
-            let len = tables.ctor_count();
-            let first = first.min(len);
-            StructValueNsCtor::ValueNsCtorWithMinVis(VisibilityIds {
-                first: first as u32,
-                count: (len - first) as u32,
-            })
+    // Whether the list that begins at `first` and is the last one has this visibility.
+    fn is_listed(&self, first: usize, id: RawVisibilityId) -> bool {
+        self.tables
+            .ctor_visibilities(self.tables.ctors_from(first))
+            .is_ok_and(|listed| listed.contains(&id))
+    }
+
+    fn ctor_of(&self, least: Least) -> StructValueNsCtor {
+        match least {
+            Least::Public => StructValueNsCtor::ValueNsCtorWithVis(RawVisibilityId::PUB),
+            Least::PubCrate => StructValueNsCtor::ValueNsCtorWithVis(RawVisibilityId::PUB_CRATE),
+            Least::Module(id) => StructValueNsCtor::ValueNsCtorWithVis(id),
+            Least::Modules(first) => {
+                StructValueNsCtor::ValueNsCtorWithMinVis(self.tables.ctors_from(first))
+            }
         }
     }
 }

@@ -4,16 +4,11 @@ ghost use Rattle.std.specs.Prelude.{◌≡◌};
 #[derive(Clone, Copy)]
 pub struct Indent {
     pub level: usize,
-    // whether the next byte begins a line
-    pub fresh: bool,
 }
 
 impl Indent {
     pub fn new() -> Indent {
-        Indent {
-            level: 0,
-            fresh: true,
-        }
+        Indent { level: 0 }
     }
 }
 
@@ -25,7 +20,7 @@ pub struct Indented<'a> {
 
 impl Drop for Indented<'_> {
     fn drop(self)
-        ensures { self.exit.0.now ≡ record { level = self.entry.before; fresh = self.entry.indent.now.fresh } }
+        ensures { self.exit.0.now ≡ record { level = self.entry.before } }
     {
         self.indent.level = self.before;
         let Indented {

@@ -1,6 +1,7 @@
-// The page that is printed on: its bytes, its indentation, and the parts of an item's text.
+// The page that is printed on: its bytes, its layout, and its indentation.
 #![tactic(auto)]
 
+pub mod fill;
 pub mod indent;
 pub mod out;
-pub mod parts;
+pub mod sink;

@@ -1,10 +1,12 @@
 -- Whether the path of a row is the path that is read.
-use Rattle.std.proofs.Common.{◌≡◌, ℕ, ◌<◌, ◌≤◌, Bool, true, false, List, length, Some, None, Option, sym, refl, ap, ◌∙◌, ⊎_elim, arith}
-use Rattle.std.proofs.lemmas.Bool.{cases_lt}
+use Rattle.std.proofs.Common.{◌≡◌, ℕ, Bool, false, List, Some, None, Option, sym, ap, ◌∙◌}
+use Rattle.std.proofs.lemmas.Option.{same_Some}
+use Rattle.std.specs.Bool.{Decides}
+use Rattle.std.specs.Option.{option_map}
 use Rattle.syntax.specs.Meaning.{at}
 use Rattle.tables.specs.Held.{held}
 use Rattle.tables.specs.Sets.{same_at}
-use Rattle.tables.proofs.Places.{at-past, at_all}
+use Rattle.tables.proofs.Sets.{decided}
 use Rattle.paths.specs.Alike.{same_path}
 use Rattle.paths.specs.Kept.{paths_in, shown}
 use Rattle.paths.specs.Same.{path_equality}
@@ -14,28 +16,22 @@ use Rattle.paths.specs.declared.interned.Paths.{Paths}
 use Rattle.paths.specs.declared.name.Name.{Name}
 use Rattle.paths.proofs.Laid.{at-meant}
 
-not-true : (b : Bool) → (b ≡ true → ⊥) → false ≡ b
-not-true true h = absurd (h refl)
-not-true false h = refl
-
--- the names are the same where they are the same one by one
-pub same_names_lem : (xs ys : List Name) (n : ℕ) → length xs ≤ n → length ys ≤ n → ((j : ℕ) → j < n → at xs j ≡ at ys j) → xs ≡ ys
-same_names_lem xs ys n a b h = at_all xs ys (λ j. ⊎_elim (h j) (λ far. at-past xs j (omega arith) ∙ sym (at-past ys j (omega arith))) (cases_lt j n))
+-- of paths of one kind, a test of their names
+pub names_decide : (p q : Path) (b : Bool) (xs ys : List Name) → xs ≡ p.names → ys ≡ q.names → p.kind ≡ q.kind → Decides b (xs ≡ ys) → Decides b (p ≡ q)
+names_decide p q b xs ys e f k d = (
+  (λ t. let n = sym e ∙ d.0 t ∙ f in λ i. record { kind = k i; names = n i }),
+  λ h. d.1 (e ∙ ap (λ (path : Path). path.names) h ∙ sym f),
+)
 
 module _ (p : Paths) (index : ℕ) (q : Path) (r : Option InternedPath) (got : r ≡ at (held p.parts) index) where
-  at_row : (part : InternedPath) → r ≡ Some part → at (paths_in p) index ≡ Some (shown p part)
+  row_at : at (paths_in p) index ≡ option_map (shown p) r
   unfolding paths_in
-  at_row part e = at-meant (held p.parts) (held p.segments) index ∙ ap (λ (o : Option InternedPath). elim o [ None ↦ None | Some x ↦ Some (shown p x) ]) (sym got ∙ e)
+  row_at = at-meant (held p.parts) (held p.segments) index ∙ ap (option_map (shown p)) (sym got)
 
   pub no_row : r ≡ None → false ≡ same_at same_path (at (paths_in p) index) q
-  unfolding paths_in
-  no_row e = sym (ap (λ (o : Option Path). same_at same_path o q) (at-meant (held p.parts) (held p.segments) index) ∙ ap (λ (o : Option InternedPath). same_at same_path (elim o [ None ↦ None | Some x ↦ Some (shown p x) ]) q) (sym got ∙ e))
+  no_row e = sym (ap (λ (o : Option Path). same_at same_path o q) (row_at ∙ ap (option_map (shown p)) e))
 
-  module _ (part : InternedPath) (is : r ≡ Some part) where
-    pub row-differs : (shown p part ≡ q → ⊥) → false ≡ same_at same_path (at (paths_in p) index) q
-    row-differs h = not-true (same_path (shown p part) q) (λ e. h (path_equality.only (shown p part) q e)) ∙ sym (ap (λ (o : Option Path). same_at same_path o q) (at_row part is))
-
-    pub row_same : part.kind ≡ q.kind → (shown p part).names ≡ q.names → true ≡ same_at same_path (at (paths_in p) index) q
-    row_same k n =
-        let same : shown p part ≡ q = λ i. record { kind = k i; names = n i } in
-        sym (ap (λ (o : Option Path). same_at same_path o q) (at_row part is) ∙ ap (λ (x : Path). same_path x q) same ∙ path_equality.itself q)
+  pub row_compared : (part : InternedPath) → r ≡ Some part → (b : Bool) → Decides b (shown p part ≡ q) → b ≡ same_at same_path (at (paths_in p) index) q
+  row_compared part is b d =
+      let row : at (paths_in p) index ≡ Some (shown p part) = row_at ∙ ap (option_map (shown p)) is in
+      decided same_path path_equality b _ q ((λ t. row ∙ ap Some (d.0 t)), λ e. d.1 (same_Some _ _ (sym row ∙ e)))

@@ -1,7 +1,7 @@
 -- How many paths and names a table of paths holds.
-use Rattle.std.proofs.Common.{◌≡◌, ℕ, ◌<◌, ◌≤◌, false, List, length, Ok, Err, Result, IfOk, ap, arith, length-take}
+use Rattle.std.proofs.Common.{◌≡◌, ℕ, ◌<◌, ◌≤◌, false, List, length, Ok, Err, Result, IfOk, ap, arith}
 use Rattle.syntax.specs.declared.refusal.Refusal.{Refusal}
-use Rattle.tables.specs.KeyInsertion.{KeyInserted}
+use Rattle.tables.specs.Insertion.{KeyInserted}
 use Rattle.tables.specs.Held.{held}
 use Rattle.tables.specs.Sets.{has, place}
 use Rattle.tables.proofs.Rows.{length-held-le}
@@ -9,10 +9,8 @@ use Rattle.tables.proofs.Sets.{place-below as below}
 use Rattle.paths.specs.Alike.{same_path, total, Room}
 use Rattle.paths.specs.Kept.{PathRows, marked_paths, marked_paths_in, paths_in}
 use Rattle.paths.specs.Parts.{meant_all}
-use Rattle.paths.specs.Names.{names_of}
 use Rattle.paths.specs.Spelling.{Path}
 use Rattle.paths.specs.declared.interned.Paths.{Paths}
-use Rattle.paths.specs.declared.mod_path.ModPath.{ModPath}
 use Rattle.paths.proofs.Laid.{length-meant, total_laid}
 
 pub length-paths : (p : Paths) → length (paths_in p) ≡ length (held p.parts)
@@ -22,9 +20,6 @@ length-paths p = length-meant _ _
 pub total-paths : (p : Paths) → total (paths_in p) ≡ length (held p.segments)
 unfolding paths_in
 total-paths p = total_laid (held p.parts) (held p.segments) p.laid.0
-
-pub length-names : (path : ModPath) → length (names_of path) ≡ path.len
-length-names path = let fits = path.fits in simp length-take (omega arith)
 
 -- a number that is answered is below 512
 pub place-below : (p : Paths) (path : Path) (i : ℕ) → i ≡ place same_path (paths_in p) path → (has same_path (paths_in p) path ≡ false → length (paths_in p) < 512) → i < 512

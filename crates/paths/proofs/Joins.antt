@@ -1,5 +1,5 @@
 -- The laws of joining.
-use Rattle.std.proofs.Common.{◌≡◌, ℕ, zero, suc, ◌+◌, ◌≤◌, List, [], ◌∷◌, ◌++◌, Some, None, Option, sym, refl, ap, arith}
+use Rattle.std.proofs.Common.{◌≡◌, ℕ, zero, suc, ◌+◌, ◌≤◌, List, [], ◌∷◌, ◌++◌, Some, None, Option, refl, arith}
 use Rattle.paths.specs.Joining.{under, broken, Target, join, single_target}
 use Rattle.paths.specs.JoiningLaws.{Joinable, plain, supers, IsSelf, IsBare, JoiningLaws}
 use Rattle.paths.specs.Spelling.{Path}
@@ -15,11 +15,11 @@ joins_plain : (p q : Path) → q.kind ≡ Plain → join (under p) q ≡ under (
 joins_plain p q e = rw e refl
 
 joins_supers : (m n : ℕ) (p q : Path) → p.kind ≡ Super m → p.names ≡ [] → q.kind ≡ Super n → 1 ≤ n → join (under p) q ≡ under (record { kind = Super (m + n); names = q.names })
-joins_supers m zero p q e f g h = let z : ⊥ = omega arith in elim z [ ]
+joins_supers m zero p q e f g h = absurd (omega arith)
 joins_supers m (suc n) p q e f g h = rw (g, e, f) refl
 
 others-at : (k : PathKind) (xs : List Name) (l : PathKind) (ys : List Name) → (Joinable (path k xs) (path l ys) → ⊥) → join (under (path k xs)) (path l ys) ≡ broken
-others-at k xs Plain ys h = elim (h (plain refl)) [ ]
+others-at k xs Plain ys h = absurd (h (plain refl))
 others-at k xs Crate ys h = refl
 others-at k xs Abs ys h = refl
 others-at k xs DollarCrate ys h = refl
@@ -28,30 +28,24 @@ others-at Plain xs (Super (suc n)) ys h = refl
 others-at Crate xs (Super (suc n)) ys h = refl
 others-at Abs xs (Super (suc n)) ys h = refl
 others-at DollarCrate xs (Super (suc n)) ys h = refl
-others-at (Super m) [] (Super (suc n)) ys h = elim (h (supers m (suc n) refl refl refl (omega arith))) [ ]
+others-at (Super m) [] (Super (suc n)) ys h = absurd (h (supers m (suc n) refl refl refl (omega arith)))
 others-at (Super m) (x ∷ xs) (Super (suc n)) ys h = refl
 
-apart : {A : Type 0} {p : Path} → broken ≡ under p → A
-apart e = let z : ◌≡◌ {A = ℕ} 0 1 = cc in let no_way : ⊥ = omega arith in elim no_way [ ]
-
-same-under : {p q : Path} → under p ≡ under q → p ≡ q
-same-under e = cc
-
 names_at : (k : PathKind) (xs : List Name) (l : PathKind) (ys : List Name) (r : Path) → join (under (path k xs)) (path l ys) ≡ under r → r.names ≡ xs ++ ys
-names_at k xs Plain ys r e = sym (ap (λ (p : Path). p.names) (same-under e))
-names_at k xs Crate ys r e = apart e
-names_at k xs Abs ys r e = apart e
-names_at k xs DollarCrate ys r e = apart e
-names_at k xs (Super zero) ys r e = apart e
-names_at Plain xs (Super (suc n)) ys r e = apart e
-names_at Crate xs (Super (suc n)) ys r e = apart e
-names_at Abs xs (Super (suc n)) ys r e = apart e
-names_at DollarCrate xs (Super (suc n)) ys r e = apart e
-names_at (Super m) [] (Super (suc n)) ys r e = sym (ap (λ (p : Path). p.names) (same-under e))
-names_at (Super m) (x ∷ xs) (Super (suc n)) ys r e = apart e
+names_at k xs Plain ys r e = cc
+names_at k xs Crate ys r e = cc
+names_at k xs Abs ys r e = cc
+names_at k xs DollarCrate ys r e = cc
+names_at k xs (Super zero) ys r e = cc
+names_at Plain xs (Super (suc n)) ys r e = cc
+names_at Crate xs (Super (suc n)) ys r e = cc
+names_at Abs xs (Super (suc n)) ys r e = cc
+names_at DollarCrate xs (Super (suc n)) ys r e = cc
+names_at (Super m) [] (Super (suc n)) ys r e = cc
+names_at (Super m) (x ∷ xs) (Super (suc n)) ys r e = cc
 
 self_alone-at : (k : PathKind) (xs : List Name) → (IsBare (path k xs) → ⊥) → single_target (under (path k xs)) (path (Super 0) []) ≡ Some (record { path = path k xs; kind = TypeOnly })
-self_alone-at Abs [] h = elim (h (refl, refl)) [ ]
+self_alone-at Abs [] h = absurd (h (refl, refl))
 self_alone-at Abs (x ∷ xs) h = refl
 self_alone-at Plain xs h = refl
 self_alone-at Crate xs h = refl
@@ -62,19 +56,19 @@ abbrev imports : Path → Option Target
 imports p = Some (record { path = p; kind = Single })
 
 single-at : (p : Path) (l : PathKind) (ys : List Name) (r : Path) → (IsSelf (path l ys) → ⊥) → join (under p) (path l ys) ≡ under r → single_target (under p) (path l ys) ≡ Some (record { path = r; kind = Single })
-single-at p (Super zero) [] r h e = apart e
-single-at p (Super zero) (y ∷ ys) r h e = apart e
+single-at p (Super zero) [] r h e = cc
+single-at p (Super zero) (y ∷ ys) r h e = cc
 single-at p (Super (suc n)) ys r h e = rw e refl
-single-at p Plain ys r h e = ap imports (same-under e)
-single-at p Crate ys r h e = apart e
-single-at p Abs ys r h e = apart e
-single-at p DollarCrate ys r h e = apart e
+single-at p Plain ys r h e = cc
+single-at p Crate ys r h e = cc
+single-at p Abs ys r h e = cc
+single-at p DollarCrate ys r h e = cc
 
 single-not-at : (p : Path) (l : PathKind) (ys : List Name) → (IsSelf (path l ys) → ⊥) → join (under p) (path l ys) ≡ broken → single_target (under p) (path l ys) ≡ None
-single-not-at p (Super zero) [] h e = elim (h (refl, refl)) [ ]
+single-not-at p (Super zero) [] h e = absurd (h (refl, refl))
 single-not-at p (Super zero) (y ∷ ys) h e = refl
 single-not-at p (Super (suc n)) ys h e = rw e refl
-single-not-at p Plain ys h e = apart (sym e)
+single-not-at p Plain ys h e = cc
 single-not-at p Crate ys h e = refl
 single-not-at p Abs ys h e = refl
 single-not-at p DollarCrate ys h e = refl

@@ -1,8 +1,6 @@
 pub mod Joins
 pub mod Naming
-pub mod Heads
 pub mod Spelled
 pub mod Comparing
 pub mod Held
 pub mod Laid
-pub mod Clipped

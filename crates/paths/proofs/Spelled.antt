@@ -9,7 +9,7 @@ use Rattle.paths.specs.declared.mod_path.PathKind.TheVariants.{Plain, Super, Cra
 use Rattle.paths.specs.declared.name.Name.{Name}
 
 never : {A : Type 0} (p : Path) → ◌≡◌ {A = Option Path} None (Some p) → A
-never p e = let z : ◌≡◌ {A = ℕ} 0 1 = cc in absurd (omega arith)
+never p e = absurd (cc)
 
 -- names
 names-read : (ns : List Name) → names_in (map name ns) ≡ Some ns
@@ -17,19 +17,19 @@ names-read [] = refl
 names-read (n ∷ ns) = ap (option_map (λ xs. n ∷ xs)) (names-read ns)
 
 mapped_some : {A B : Type 0} (f : A → B) (o : Option A) (y : B) → option_map f o ≡ Some y → (x : A) × ((o ≡ Some x) × (f x ≡ y))
-mapped_some f None y e = let z : ◌≡◌ {A = ℕ} 0 1 = cc in absurd (omega arith)
-mapped_some f (Some x) y e = (x, (refl, (let same : f x ≡ y = cc in same)))
+mapped_some f None y e = cc
+mapped_some f (Some x) y e = (x, (refl, (cc)))
 
 names-spelled : (ss : List Segment) (ns : List Name) → names_in ss ≡ Some ns → ss ≡ map name ns
 names-spelled [] ns e = let same : [] ≡ ns = cc in ap (map name) same
 names-spelled (name n ∷ ss) ns e =
     let parts = mapped_some (λ xs. n ∷ xs) (names_in ss) ns e in
     ap (λ xs. name n ∷ xs) (names-spelled ss parts.0 parts.1.0) ∙ ap (map name) parts.1.1
-names-spelled (nameless ∷ ss) ns e = let z : ◌≡◌ {A = ℕ} 0 1 = cc in absurd (omega arith)
-names-spelled (self' ∷ ss) ns e = let z : ◌≡◌ {A = ℕ} 0 1 = cc in absurd (omega arith)
-names-spelled (super' ∷ ss) ns e = let z : ◌≡◌ {A = ℕ} 0 1 = cc in absurd (omega arith)
-names-spelled (crate' ∷ ss) ns e = let z : ◌≡◌ {A = ℕ} 0 1 = cc in absurd (omega arith)
-names-spelled (dollar_crate ∷ ss) ns e = let z : ◌≡◌ {A = ℕ} 0 1 = cc in absurd (omega arith)
+names-spelled (nameless ∷ ss) ns e = cc
+names-spelled (self' ∷ ss) ns e = cc
+names-spelled (super' ∷ ss) ns e = cc
+names-spelled (crate' ∷ ss) ns e = cc
+names-spelled (dollar_crate ∷ ss) ns e = cc
 
 abbrev made : PathKind → List Name → Path
 made kind ns = record { kind = kind; names = ns }
@@ -127,7 +127,7 @@ pub paths-stand : PathsStand
 paths-stand leading ss = record {
   spelled = spelled-read leading ss;
   read = read-spelled leading ss;
-  one = λ p q s t. let e = read-spelled leading ss p s in let f = read-spelled leading ss q t in (let same : p ≡ q = cc in same);
+  one = λ p q s t. cc (read-spelled leading ss p s, read-spelled leading ss q t);
   unspelled = λ none p s. never p (sym none ∙ read-spelled leading ss p s);
   unread = none_read leading ss (read_as leading ss) refl;
 }

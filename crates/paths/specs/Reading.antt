@@ -1,5 +1,5 @@
 -- The path that a Path node spells.
-use Rattle.std.specs.Prelude.{ℕ, ◌+◌, Bool, true, false, cond, List, [], ◌∷◌, Some, None, Option, ◌==◌}
+use Rattle.std.specs.Prelude.{◌≡◌, ℕ, ◌+◌, Bool, true, false, cond, List, [], ◌∷◌, ◌++◌, Some, None, Option, ◌==◌}
 use Rattle.std.specs.Option.{option_map}
 use Rattle.syntax.specs.Children.{children}
 use Rattle.syntax.specs.Meaning.{Meaning}
@@ -26,6 +26,10 @@ names_in (dollar_crate ∷ later) = None
 
 abbrev pub with_names : PathKind → List Segment → Option Path
 with_names kind segments = option_map (λ ns. record { kind = kind; names = ns }) (names_in segments)
+
+-- a path goes on with names
+abbrev pub with_more : Path → List Segment → Option Path
+with_more p segments = option_map (λ ns. record { kind = p.kind; names = p.names ++ ns }) (names_in segments)
 
 -- after `self` and n times `super`
 abbrev pub after_supers : ℕ → List Segment → Option Path
@@ -65,6 +69,10 @@ written SelfWord n = self'
 written SuperWord n = super'
 written CrateWord n = crate'
 written DollarWord n = dollar_crate
+
+-- the kind of a Segment node
+abbrev pub Marks : Node → SegmentKind → Type 0
+Marks x kind = segment_of x ≡ written kind (name_of x.text)
 
 -- the name of a segment that is one
 abbrev pub name_in : Segment → Option Name

@@ -4,6 +4,7 @@ ghost use Rattle.paths.specs.Parts.{Laid};
 
 use crate::mod_path::PathKind;
 use crate::name::Name;
+use tables::part::Part;
 use tables::table::Table;
 
 pub mod names;
@@ -24,10 +25,11 @@ impl PathId {
 #[derive(Clone, Copy)]
 pub struct InternedPath {
     kind: PathKind,
-    first: u32,
-    count: u32,
+    names: Part<Name>,
 }
 
+// A table of paths and one of their names, since the subject limits each of them: 512 paths, which
+// have 2,048 names together.
 #[derive(Clone, Copy)]
 pub struct Paths {
     parts: Table<InternedPath, 512>,

@@ -48,17 +48,17 @@ pub fn concat_mod_paths(prefix: Option<PathShape>, path: PathShape) -> Option<Pa
     ensures joins { (xs ns : List PathName) → length xs ≡ len_of prefix → supers_in prefix + supers_of path.kind < 2 ^ 32 → join_of (around xs prefix) (record { kind = path.kind; names = ns }) ≡ joined (xs ++ ns) result }
     ensures sizes { IfSome result (λ whole. (len_of prefix + path.len < 2 ^ 64 → whole.len ≡ len_of prefix + path.len) × (supers_of whole.kind ≤ supers_in prefix + supers_of path.kind)) }
 {
-    match prefix {
-        None => Some(path),
-        Some(prefix) => match path.kind {
-            PathKind::Plain => Some(PathShape {
-                kind: prefix.kind,
-                len: prefix.len.saturating_add(path.len),
-            }),
-            // `super::super` + `super::rest`
-            PathKind::Super(count) => add_supers(prefix, count, path.len),
-            PathKind::Crate | PathKind::Abs | PathKind::DollarCrate => None,
-        },
+    let Some(prefix) = prefix else {
+        return Some(path);
+    };
+    match path.kind {
+        PathKind::Plain => Some(PathShape {
+            kind: prefix.kind,
+            len: prefix.len.saturating_add(path.len),
+        }),
+        // `super::super` + `super::rest`
+        PathKind::Super(count) => add_supers(prefix, count, path.len),
+        PathKind::Crate | PathKind::Abs | PathKind::DollarCrate => None,
     }
 }
 
@@ -76,21 +76,19 @@ fn self_import(prefix: PathShape) -> Option<(PathKind, ImportKind)>
 pub fn single_import(prefix: Option<PathShape>, path: PathShape) -> Option<(PathKind, ImportKind)>
     ensures { (xs ns : List PathName) → length xs ≡ len_of prefix → length ns ≡ path.len → supers_in prefix + supers_of path.kind < 2 ^ 32 → single_target (around xs prefix) (record { kind = path.kind; names = ns }) ≡ imported (xs ++ ns) result }
 {
-    match prefix {
-        None => Some((path.kind, ImportKind::Single)),
-        Some(outer) => match path.kind {
-            PathKind::Super(0) if path.len == 0 => self_import(outer),
-            _ => match concat_mod_paths(prefix, path) {
-                Some(whole) => Some((whole.kind, ImportKind::Single)),
-                None => None,
-            },
-        },
+    let Some(outer) = prefix else {
+        return Some((path.kind, ImportKind::Single));
+    };
+    match path.kind {
+        PathKind::Super(0) if path.len == 0 => self_import(outer),
+        _ => {
+            let whole = concat_mod_paths(prefix, path)?;
+            Some((whole.kind, ImportKind::Single))
+        }
     }
 }
 
 // Joining is what its laws say, in the contract.
-pub fn joining_stands() -> u8
+pub fn joining_stands()
     ensures { JoiningLaws }
-{
-    0
-}
+{}

@@ -1,7 +1,6 @@
 // A path as it is read: its kind and its names.
-ghost use Rattle.std.specs.Prelude.{◌≡◌, ◌≤◌, length};
-
 use crate::name::Name;
+use tables::table::Table;
 
 pub mod make;
 pub mod read;
@@ -23,8 +22,5 @@ pub enum PathKind {
 #[derive(Clone, Copy)]
 pub struct ModPath {
     kind: PathKind,
-    // the first `len` are the names, the rest is free
-    segments: [Name; 64],
-    len: usize,
-    ghost fits: { (len ≤ 64) × (length segments ≡ 64) },
+    names: Table<Name, 64>,
 }

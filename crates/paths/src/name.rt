@@ -12,13 +12,10 @@ pub enum Name {
 
 impl Name {
     // The name that a node with this text number has.
+    // The project's own form, `let .. else` at the callers, needs an Option; a TryFrom would have an error that says nothing.
     pub fn of_text(text: u32) -> Option<Name>
         ensures { result ≡ name_of text }
     {
-        if text == 0 {
-            None
-        } else {
-            Some(Name::Text(text))
-        }
+        (text != 0).then_some(Name::Text(text))
     }
 }

@@ -1,5 +1,7 @@
 // The printed text of an item tree.
 #![tactic(auto)]
 
-pub mod mod_items;
+mod mod_items;
+mod parts;
 pub mod print;
+mod printer;

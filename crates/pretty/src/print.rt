@@ -1,13 +1,13 @@
 // The text of a whole tree.
 ghost use Rattle.std.specs.Prelude.{◌≡◌, ◌<◌, ◌≤◌, length, MatchResult};
 
-use crate::mod_items::print_mod_item;
+use crate::printer::Printer;
 use item_tree::tree::ItemTree;
+use page::fill::fill;
 use page::indent::Indent;
 use page::out::Out;
-use syntax::refusal::{Needed, Refusal};
+use syntax::refusal::Refusal;
 use syntax::source::SyntaxSource;
-use tree_tables::tree::TreeTables;
 
 // Items stand at most this deep.
 const MAX_DEPTH: u32 = 40;
@@ -18,17 +18,20 @@ fn print_into<S: SyntaxSource>(
     source: &S,
     buf: &mut [u8],
 ) -> Result<usize, Refusal> {
-    let mut out = Out::new(buf);
+    let mut printer = Printer {
+        out: Out::new(buf),
+        tree: tree.tables(),
+        source,
+    };
     let mut indent = Indent::new();
-    let tables = tree.tables();
     if let Some(attrs) = tree.top_level_attrs() {
-        out.print_attrs(tables, source, &mut indent, attrs, b"#![")?;
-        out.blank();
+        printer.print_attrs(&indent, attrs, b"#![")?;
+        printer.out.blank();
     }
     for id in tree.top_level_items() {
-        print_mod_item(&mut out, tables, source, &mut indent, *id, MAX_DEPTH)?;
+        printer.print_mod_item(&mut indent, *id, MAX_DEPTH)?;
     }
-    Ok(out.finish())
+    Ok(printer.out.finish())
 }
 
 // The text of a tree over the texts of its source, from the front of `buf`; answers its length.
@@ -39,11 +42,5 @@ pub fn print_item_tree<S: SyntaxSource>(
 ) -> Result<usize, Refusal>
     ensures { MatchResult result (λ len. len ≤ length buf.old) (λ _. buf.new ≡ buf.old) }
 {
-    // the first run finds what is missing and how much room it takes, and writes nothing
-    let needed = print_into(tree, source, &mut [])?;
-    if needed > buf.len() {
-        return Err(Refusal::TooShort(Needed::Bytes(needed)));
-    }
-    let _ = print_into(tree, source, buf);
-    Ok(needed)
+    fill(buf, |room| print_into(tree, source, room))
 }

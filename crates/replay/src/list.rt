@@ -1,110 +1,113 @@
 // The stored list: a count, then for each case its name, its form, its calls and the answers; numbers have four bytes, the lowest first.
+ghost use Rattle.std.specs.Iterator.{at_most};
+
 use std::alloc::{AllocError, Global};
-
-// Bytes of the list.
-#[derive(Clone, Copy)]
-pub struct Part {
-    start: usize,
-    len: usize,
-}
-
-impl Part {
-    // The bytes themselves; none where the list is too short for them.
-    pub fn of(self, bytes: &[u8]) -> &[u8] {
-        let start = self.start.min(bytes.len());
-        let len = self.len.min(bytes.len() - start);
-        &bytes[start..start + len]
-    }
-}
 
 // A text that is expected: its length and its check sum, and where it is short its bytes.
 #[derive(Clone, Copy)]
-pub struct Text {
+pub struct Text<'a> {
     pub len: u32,
     pub sum: u32,
-    pub whole: Part,
+    pub whole: &'a [u8],
 }
 
 #[derive(Clone, Copy)]
-pub struct Case {
-    pub name: Part,
-    pub form: Part,
-    first_call: usize,
-    call_count: u32,
-    // the refusal of opening, or 0
-    pub refusal: u32,
-    pub dump: Text,
-    pub print: Text,
+pub struct Case<'a> {
+    pub name: &'a [u8],
+    pub form: &'a [u8],
+    calls: &'a [u8],
+    // of opening
+    pub refusal: Option<u32>,
+    pub dump: Text<'a>,
+    pub print: Text<'a>,
 }
 
-// Where the next number stands.
-#[derive(Clone, Copy, Drop)]
-pub struct Cursor {
-    at: usize,
-}
-
-// The number at a place; 0 past the end.
-fn word_at(bytes: &[u8], at: usize) -> u32 {
-    let at = at.min(bytes.len());
-    match &bytes[at..] {
-        [a, b, c, d, ..] => u32::from_le_bytes([*a, *b, *c, *d]),
-        _ => 0,
+impl Case<'_> {
+    // The calls to be made.
+    pub fn calls(&self, heap: Global) -> Result<Vec<u32>, AllocError> {
+        let (calls, _) = self.calls.as_chunks::<4>();
+        calls
+            .iter()
+            .map(|call| u32::from_le_bytes(*call))
+            .collect(heap)
     }
 }
 
-impl Cursor {
-    pub fn new() -> Cursor {
-        Cursor { at: 0 }
+// What is not read yet.
+#[derive(Drop)]
+struct Rest<'a>(&'a [u8]);
+
+impl<'a> Rest<'a> {
+    // The next bytes, as many as there are.
+    fn bytes(&mut self, len: usize) -> &'a [u8] {
+        let (bytes, rest) = self.0.split_at(len.min(self.0.len()));
+        self.0 = rest;
+        bytes
     }
 
-    pub fn word(&mut self, bytes: &[u8]) -> u32 {
-        let word = word_at(bytes, self.at);
-        self.at = self.at.saturating_add(4);
-        word
+    // The next number; 0 past the end.
+    fn word(&mut self) -> u32 {
+        let word = self.bytes(4).as_array::<4>();
+        word.map_or(0, |word| u32::from_le_bytes(*word))
     }
 
-    fn part(&mut self, bytes: &[u8]) -> Part {
-        let len = self.word(bytes) as usize;
-        let start = self.at;
-        self.at = start.saturating_add(len);
-        Part { start, len }
+    fn part(&mut self) -> &'a [u8] {
+        let len = self.word() as usize;
+        self.bytes(len)
     }
 
-    fn text(&mut self, bytes: &[u8]) -> Text {
-        let len = self.word(bytes);
-        let sum = self.word(bytes);
-        let whole = self.part(bytes);
-        Text { len, sum, whole }
+    fn text(&mut self) -> Text<'a> {
+        Text {
+            len: self.word(),
+            sum: self.word(),
+            whole: self.part(),
+        }
     }
 
-    pub fn case(&mut self, bytes: &[u8]) -> Case {
-        let name = self.part(bytes);
-        let form = self.part(bytes);
-        let call_count = self.word(bytes);
-        let first_call = self.at;
-        self.at = first_call.saturating_add(4 * call_count as usize);
-        let refusal = self.word(bytes);
-        let dump = self.text(bytes);
-        let print = self.text(bytes);
+    fn case(&mut self) -> Case<'a> {
+        let name = self.part();
+        let form = self.part();
+        let call_count = self.word() as usize;
         Case {
             name,
             form,
-            first_call,
-            call_count,
-            refusal,
-            dump,
-            print,
+            calls: self.bytes(4 * call_count),
+            refusal: Some(self.word()).filter(|number| *number != 0),
+            dump: self.text(),
+            print: self.text(),
         }
     }
 }
 
-impl Case {
-    // The calls to be made.
-    pub fn calls(self, heap: Global, bytes: &[u8]) -> Result<Vec<u32>, AllocError> {
-        let mut calls = Vec::new(heap);
-        for k in 0..self.call_count {
-            calls.push(word_at(bytes, self.first_call.saturating_add(4 * k as usize)))?;
+// The cases that are left.
+#[derive(Drop)]
+pub struct Cases<'a> {
+    count: u32,
+    rest: Rest<'a>,
+}
+
+impl<'a> Cases<'a> {
+    pub fn of(bytes: &'a [u8]) -> Cases<'a> {
+        let mut rest = Rest(bytes);
+        Cases {
+            count: rest.word(),
+            rest,
         }
-        Ok(calls)
+    }
+
+    // How many are left.
+    pub fn count_left(&self) -> u32 {
+        self.count
+    }
+}
+
+impl<'a> Iterator for Cases<'a> {
+    type Item = Case<'a>;
+
+    ghost remaining = { λ cases. at_most cases.count };
+
+    fn next(&mut self) -> Option<Case<'a>> {
+        self.count = self.count.checked_sub(1)?;
+        Some(self.rest.case())
     }
 }

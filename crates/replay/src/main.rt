@@ -1,7 +1,7 @@
 // replay: compares the port with answers of the Rust that are stored in data/cases.
 #![tactic(auto)]
 
-use crate::list::{Case, Cursor};
+use crate::list::Cases;
 use crate::replayed::agrees;
 use std::io::Write;
 use std::{fs, io};
@@ -16,17 +16,16 @@ fn main(rt: HostRuntime) -> io::Result<()> {
     let heap = rt.alloc();
     let bytes = fs::read(&rt, "cases")?;
     let mut text = vec![in heap; 0; ROOM]?;
-    let mut cursor = Cursor::new();
+    let cases = Cases::of(&bytes);
+    let count = cases.count_left();
     let mut agreed: u32 = 0;
-    let count = cursor.word(&bytes);
-    for _ in 0..count {
-        let case = cursor.case(&bytes);
-        let calls = case.calls(heap, &bytes)?;
-        if agrees(&bytes, case, &calls, &mut text) {
+    for case in cases {
+        let calls = case.calls(heap)?;
+        if agrees(&case, &calls, &mut text) {
             agreed = agreed.saturating_add(1);
         } else {
             rt.stdout().write_all(b"differs: ")?;
-            rt.stdout().write_all(case.name.of(&bytes))?;
+            rt.stdout().write_all(case.name)?;
             rt.stdout().write_all(b"\n")?;
         }
     }

@@ -1,5 +1,5 @@
 -- Paths that are found equal are equal.
-use Rattle.std.proofs.Common.{◌≡◌, true, List, [], ◌∷◌, refl, ap, ◌∙◌, arith}
+use Rattle.std.proofs.Common.{◌≡◌, ℕ, zero, suc, true, List, [], ◌∷◌, sym, refl, ap, ◌∙◌, ◌+◌, arith}
 use Rattle.std.proofs.lemmas.Bool.{eqb-true, and_parts, false≢true}
 use Rattle.paths.specs.Spelling.{Path}
 use Rattle.paths.specs.declared.mod_path.PathKind.{PathKind}
@@ -24,32 +24,23 @@ names_same (x ∷ xs) (y ∷ ys) e =
     let g = names_same xs ys h.1 in
     cc
 
+-- the kind of a number
+abbrev numbered_kind : ℕ → PathKind
+numbered_kind zero = Plain
+numbered_kind (suc zero) = Abs
+numbered_kind (suc (suc zero)) = Crate
+numbered_kind (suc (suc (suc zero))) = DollarCrate
+numbered_kind (suc (suc (suc (suc n)))) = Super n
+
+kind-numbered : (kind : PathKind) → numbered_kind (kind_number kind) ≡ kind
+kind-numbered Plain = refl
+kind-numbered Abs = refl
+kind-numbered Crate = refl
+kind-numbered DollarCrate = refl
+kind-numbered (Super n) = let more : 4 + n ≡ suc (suc (suc (suc n))) = omega arith in ap numbered_kind more
+
 kind-same : (a b : PathKind) → kind_number a ≡ kind_number b → a ≡ b
-kind-same Plain Plain e = refl
-kind-same Plain Abs e = absurd (omega arith)
-kind-same Plain Crate e = absurd (omega arith)
-kind-same Plain DollarCrate e = absurd (omega arith)
-kind-same Plain (Super n) e = absurd (omega arith)
-kind-same Abs Plain e = absurd (omega arith)
-kind-same Abs Abs e = refl
-kind-same Abs Crate e = absurd (omega arith)
-kind-same Abs DollarCrate e = absurd (omega arith)
-kind-same Abs (Super n) e = absurd (omega arith)
-kind-same Crate Plain e = absurd (omega arith)
-kind-same Crate Abs e = absurd (omega arith)
-kind-same Crate Crate e = refl
-kind-same Crate DollarCrate e = absurd (omega arith)
-kind-same Crate (Super n) e = absurd (omega arith)
-kind-same DollarCrate Plain e = absurd (omega arith)
-kind-same DollarCrate Abs e = absurd (omega arith)
-kind-same DollarCrate Crate e = absurd (omega arith)
-kind-same DollarCrate DollarCrate e = refl
-kind-same DollarCrate (Super n) e = absurd (omega arith)
-kind-same (Super m) Plain e = absurd (omega arith)
-kind-same (Super m) Abs e = absurd (omega arith)
-kind-same (Super m) Crate e = absurd (omega arith)
-kind-same (Super m) DollarCrate e = absurd (omega arith)
-kind-same (Super m) (Super n) e = let f : m ≡ n = omega arith in ap Super f
+kind-same a b e = sym (kind-numbered a) ∙ ap numbered_kind e ∙ kind-numbered b
 
 pub path-same : (p q : Path) → same_path p q ≡ true → p ≡ q
 path-same p q e =

@@ -1,6 +1,6 @@
 -- No two entries of a run's inventory have the same id.
-use Rattle.std.proofs.Common.{◌≡◌, ℕ, ◌+◌, ◌<◌, ◌≤◌, Bool, true, false, cond, ◌||◌, eqb, ◌⊎◌, Some, None, Option, sym, refl, ap, ◌∙◌, subst, inl, inr, arith, eq-eqb}
-use Rattle.std.proofs.lemmas.Bool.{eqb-true, or_cases, false≢true}
+use Rattle.std.proofs.Common.{◌≡◌, ℕ, ◌+◌, ◌<◌, ◌≤◌, true, false, cond, ◌||◌, eqb, ◌⊎◌, Some, None, Option, sym, refl, ap, ◌∙◌, subst, inl, inr, arith, eq-eqb}
+use Rattle.std.proofs.lemmas.Bool.{eqb-true, or_cases, or_left, or_right, cond_both, false_from_ne_true, false≢true}
 use Rattle.syntax.specs.Meaning.{Meaning}
 use Rattle.syntax.specs.Trees.{Siblings, none, node}
 use Rattle.syntax.specs.declared.walk.NodeRef.{NodeRef}
@@ -59,10 +59,6 @@ Apart (entry e inside later) =
 abbrev Ranged : Counts → Entries → Type 0
 Ranged a es = (n : ℕ) → is_id n es ≡ true → Among a (plus a es) n
 
-pub is_false : (b : Bool) → (b ≡ true → ⊥) → b ≡ false
-is_false true h = absurd (h refl)
-is_false false h = refl
-
 -- an entry after those inside it and before those after it
 module _ (a : Counts) (e : Entry) (inside later : Entries) (numbered : e.id ≡ id_of (size_of e.item) (of_size (size_of e.item) (plus a inside))) where
   abbrev t : Size
@@ -94,8 +90,8 @@ module _ (a : Counts) (e : Entry) (inside later : Entries) (numbered : e.id ≡ 
 
   entry-apart : Ranged a inside → Ranged c later → Apart inside → Apart later → Apart (entry e inside later)
   entry-apart f g p q = (
-    is_false (is_id e.id inside) (λ h. among-apart a b b c e.id (λ s. omega arith) (f e.id h) own-among),
-    is_false (is_id e.id later) (λ h. among-apart b c c d e.id (λ s. omega arith) own-among (g e.id h)),
+    false_from_ne_true (is_id e.id inside) (λ h. among-apart a b b c e.id (λ s. omega arith) (f e.id h) own-among),
+    false_from_ne_true (is_id e.id later) (λ h. among-apart b c c d e.id (λ s. omega arith) own-among (g e.id h)),
     λ n h k. among-apart a b c d n (one_up t b) (f n h) (g n k),
     p,
     q,
@@ -119,27 +115,15 @@ placed_good m a x inside later (Some r) f g =
 nothing_good : (a : Counts) → Good a empty
 nothing_good a = record { ranged = λ n h. absurd (false≢true h); apart = tt }
 
-inside_good : (a : Counts) (b : Bool) (es : Entries) → Good a es → Good a (cond b es empty)
-inside_good a true es h = h
-inside_good a false es h = nothing_good a
-
 pub entries_good : (m : Meaning) (a : Counts) (i : ℕ) (items : Siblings) → Good a (entries_from m a i items)
 entries_good m a i none = nothing_good a
 entries_good m a i (node x children later) =
     let here : NodeRef = record { number = i; node = x } in
     let inside = cond (has_items x) (entries_from m a (i + 1) children) empty in
-    placed_good m a here inside (λ n. entries_from m n x.end later) (record_of m here (ids inside)) (inside_good a (has_items x) (entries_from m a (i + 1) children) (entries_good m a (i + 1) children)) (λ n. entries_good m n x.end later)
-
-pub or_second : (p q : Bool) → q ≡ true → (p || q) ≡ true
-or_second true q h = refl
-or_second false q h = h
-
-pub or-first : (p q : Bool) → p ≡ true → (p || q) ≡ true
-or-first true q h = refl
-or-first false q h = absurd (false≢true h)
+    placed_good m a here inside (λ n. entries_from m n x.end later) (record_of m here (ids inside)) (cond_both (has_items x) _ empty (Good a) (λ _. entries_good m a (i + 1) children) (λ _. nothing_good a)) (λ n. entries_good m n x.end later)
 
 pub own-id : (e : Entry) (inside later : Entries) → is_id e.id (entry e inside later) ≡ true
-own-id e inside later = or-first (eqb e.id e.id) (is_id e.id inside || is_id e.id later) (eq-eqb e.id e.id refl)
+own-id e inside later = or_left (eqb e.id e.id) (is_id e.id inside || is_id e.id later) (eq-eqb e.id e.id refl)
 
 pub plus-followed : (a : Counts) (es fs : Entries) → plus a (followed es fs) ≡ plus (plus a es) fs
 plus-followed a empty fs = refl
@@ -152,10 +136,10 @@ is_id-followed n (entry e inside later) fs h =
       | inl y ↦ inl (rw y refl)
       | inr y ↦
           elim (or_cases (is_id n inside) (is_id n (followed later fs)) y) [
-            | inl z ↦ inl (or_second (eqb e.id n) (is_id n inside || is_id n later) (rw z refl))
+            | inl z ↦ inl (or_right (eqb e.id n) (is_id n inside || is_id n later) (rw z refl))
             | inr z ↦
                 elim (is_id-followed n later fs z) [
-                  | inl w ↦ inl (or_second (eqb e.id n) (is_id n inside || is_id n later) (or_second (is_id n inside) (is_id n later) w))
+                  | inl w ↦ inl (or_right (eqb e.id n) (is_id n inside || is_id n later) (or_right (is_id n inside) (is_id n later) w))
                   | inr w ↦ inr w
                 ]
           ]
@@ -165,10 +149,10 @@ followed-apart : (es fs : Entries) → Apart es → Apart fs → ((n : ℕ) → 
 followed-apart empty fs p q h = q
 followed-apart (entry e inside later) fs p q h = (
   p.0,
-  is_false (is_id e.id (followed later fs)) (λ k. elim (is_id-followed e.id later fs k) [ inl y ↦ false≢true (sym p.1 ∙ y) | inr y ↦ h e.id (own-id e inside later) y ]),
-  λ n k l. elim (is_id-followed n later fs l) [ inl y ↦ p.2 n k y | inr y ↦ h n (or_second (eqb e.id n) (is_id n inside || is_id n later) (or-first (is_id n inside) (is_id n later) k)) y ],
+  false_from_ne_true (is_id e.id (followed later fs)) (λ k. elim (is_id-followed e.id later fs k) [ inl y ↦ false≢true (sym p.1 ∙ y) | inr y ↦ h e.id (own-id e inside later) y ]),
+  λ n k l. elim (is_id-followed n later fs l) [ inl y ↦ p.2 n k y | inr y ↦ h n (or_right (eqb e.id n) (is_id n inside || is_id n later) (or_left (is_id n inside) (is_id n later) k)) y ],
   p.3,
-  followed-apart later fs p.4 q (λ n k l. h n (or_second (eqb e.id n) (is_id n inside || is_id n later) (or_second (is_id n inside) (is_id n later) k)) l),
+  followed-apart later fs p.4 q (λ n k l. h n (or_right (eqb e.id n) (is_id n inside || is_id n later) (or_right (is_id n inside) (is_id n later) k)) l),
 )
 
 pub followed_good : (a : Counts) (es fs : Entries) → Good a es → Good (plus a es) fs → Good a (followed es fs)

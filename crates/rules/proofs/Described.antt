@@ -1,9 +1,9 @@
 -- Each entry of a run is that of its node, and so is each struct's constructor.
-use Rattle.std.proofs.Common.{◌≡◌, ℕ, ◌+◌, ◌<◌, ◌≤◌, Bool, true, false, cond, eqb, List, length, get_or, Some, None, Option, sym, refl, ap, ◌∙◌, subst, inl, inr, arith}
-use Rattle.std.proofs.lemmas.Bool.{cases_Bool, eqb-true, false≢true}
+use Rattle.std.proofs.Common.{◌≡◌, ℕ, ◌+◌, ◌≤◌, Bool, true, false, cond, eqb, List, length, Some, None, Option, sym, refl, ap, ◌∙◌, subst, inl, inr, arith}
+use Rattle.std.proofs.lemmas.Bool.{cases_Bool, cond_both, eqb-true, false≢true}
 use Rattle.std.specs.Option.{option_map}
-use Rattle.syntax.proofs.Fronts.{at_in, at_some}
-use Rattle.syntax.proofs.Grouping.{between_first, between_none}
+use Rattle.syntax.proofs.Fronts.{at_in}
+use Rattle.syntax.proofs.Rows.{between_alone}
 use Rattle.syntax.proofs.Lawfulness.{law-stands}
 use Rattle.syntax.specs.Children.{child_of}
 use Rattle.syntax.specs.Law.{lawful}
@@ -42,10 +42,6 @@ module _ (m : Meaning) where
   placed-described a x inside later (Some r) there is-record f g =
       (record { node = x.node; there = there; inside = ids inside; as_written = is-record; with_attrs = refl }, f, g (plus_one (size_of r) (plus a inside)))
 
-  inside-described : (b : Bool) (es : Entries) → Each (Described m) es → Each (Described m) (cond b es empty)
-  inside-described true es h = h
-  inside-described false es h = tt
-
   entries-described : (t : Siblings) (i end : ℕ) (a : Counts) → end ≤ length m.nodes → t ≡ between m.nodes i end → Fill i end t → Each (Described m) (entries_from m a i t)
   entries-described none i end a in_List same fill = tt
   entries-described (node x children later) i end a in_List same fill =
@@ -54,7 +50,7 @@ module _ (m : Meaning) where
       let at_i : node_at m i ≡ Some x = at_in i m.nodes x (omega (arith, fill.0, fill.1)) ∙ ap Some (sym (node-here m.nodes i end x children later in_List same fill)) in
       let inside = cond (has_items x) (entries_from m a (i + 1) children) empty in
       placed-described a here inside (λ n. entries_from m n x.end later) (record_of m here (ids inside)) at_i refl
-      (inside-described (has_items x) (entries_from m a (i + 1) children) (entries-described children (i + 1) x.end a (omega (arith, fill.1)) parts.0 fill.2))
+      (cond_both (has_items x) _ empty (Each (Described m)) (λ _. entries-described children (i + 1) x.end a (omega (arith, fill.1)) parts.0 fill.2) (λ _. tt))
       (λ n. entries-described later x.end end n in_List parts.1 fill.3)
 
   module _ (law : lawful m ≡ true) where
@@ -62,15 +58,7 @@ module _ (m : Meaning) where
     alone-fill : (i : ℕ) (x : Node) → node_at m i ≡ Some x → Fill i x.end (between m.nodes i x.end)
     alone-fill i x e =
         let p = (law-stands m law).placed i x e in
-        let here : get_or m.nodes i x ≡ x = (at_some i m.nodes x e).1 in
-        let up : i < (get_or m.nodes i x).end = subst (λ y. i < y.end) (sym here) p.above in
-        let low : (get_or m.nodes i x).end ≤ x.end = subst (λ y. y.end ≤ x.end) (sym here) (omega arith) in
-        let parts = between_first m.nodes x i x.end p.above p.below up low in
-        let end_None = between_none m.nodes x.end in
-        let whole : between m.nodes i x.end ≡ node x (between m.nodes (i + 1) x.end) none =
-        parts ∙ (ap (λ (y : Node). node y (between m.nodes (i + 1) y.end) (between m.nodes y.end x.end)) here ∙ ap (node x (between m.nodes (i + 1) x.end)) end_None) in
-        let own : Fill i x.end (node x (between m.nodes (i + 1) x.end) none) = (p.above, omega arith, p.fill, refl) in
-        subst (Fill i x.end) (sym whole) own
+        subst (Fill i x.end) (sym (between_alone m i x law e)) (p.above, omega arith, p.fill, refl)
 
     alone-described : (a : Counts) (i : ℕ) (o : Option Node) → node_at m i ≡ o → Each (Described m) (entries_from m a i (alone m.nodes i o))
     alone-described a i None e = tt

@@ -1,8 +1,8 @@
 -- How many entries a call can bring.
-use Rattle.std.proofs.Common.{◌≡◌, ℕ, ◌+◌, ◌-◌, ◌<◌, ◌≤◌, Bool, true, false, cond, not, List, ◌++◌, length, get_or, take, drop, Some, None, Option, sym, refl, ap, ◌∙◌, subst, inl, inr, arith, length-append, length-drop, length-take}
-use Rattle.std.proofs.lemmas.Bool.{and_parts, leb-true, ltb-true, or_cases, false≢true}
-use Rattle.syntax.proofs.Fronts.{at_some}
-use Rattle.syntax.proofs.Grouping.{between_first, between_none, size-siblings}
+use Rattle.std.proofs.Common.{◌≡◌, ℕ, ◌+◌, ◌-◌, ◌≤◌, Bool, true, false, cond, List, ◌++◌, length, take, drop, Some, None, Option, sym, refl, ap, subst, inl, inr, arith, length-append, length-drop, length-take}
+use Rattle.std.proofs.lemmas.Bool.{ltb-true, or_cases, cond_both}
+use Rattle.syntax.proofs.Grouping.{size-siblings}
+use Rattle.syntax.proofs.Rows.{between_alone}
 use Rattle.syntax.proofs.Lawfulness.{law-stands}
 use Rattle.syntax.specs.Law.{lawful}
 use Rattle.syntax.specs.Meaning.{Meaning, node_at}
@@ -14,7 +14,7 @@ use Rattle.syntax.specs.declared.refusal.Refusal.TheVariants.{NotAnItem, NotFirs
 use Rattle.syntax.specs.declared.walk.NodeRef.{NodeRef}
 use Rattle.rules.proofs.Apart.{plus-followed}
 use Rattle.rules.proofs.Ids.{counted}
-use Rattle.rules.proofs.RunSteps.{limits_stand}
+use Rattle.rules.proofs.RunSteps.{limits_stand, in_limits}
 use Rattle.rules.specs.Consequences.{IndexNever, OneItem}
 use Rattle.rules.specs.Entries.{Record, Size, small, big, size_of, id_of, record_of, has_items, Entries, empty, ids, followed}
 use Rattle.rules.specs.Inventory.{Counts, of_size, plus_one, plus, no_ids, placed, entries_from, alone, node_tree, below, root_items, own, ids_given}
@@ -42,10 +42,6 @@ placed-few s m a x inside later (Some r) j k f g =
     let n = id_of t (of_size t b) in
     entry-few s (ids_given s inside) (own s t n) (ids_given s (later (plus_one t b))) j k f (own-few s t n) (g (plus_one t b))
 
-inside-few : (s : Size) (b : Bool) (es : Entries) (j : ℕ) → length (ids_given s es) ≤ j → length (ids_given s (cond b es empty)) ≤ j
-inside-few s true es j h = h
-inside-few s false es j h = omega arith
-
 -- no more than there are nodes
 entries-few : (s : Size) (m : Meaning) (a : Counts) (i : ℕ) (items : Siblings) → length (ids_given s (entries_from m a i items)) ≤ size items
 entries-few s m a i none = omega arith
@@ -53,7 +49,7 @@ entries-few s m a i (node x children later) =
     let here : NodeRef = record { number = i; node = x } in
     let inside = cond (has_items x) (entries_from m a (i + 1) children) empty in
     placed-few s m a here inside (λ n. entries_from m n x.end later) (record_of m here (ids inside)) (size children) (size later)
-    (inside-few s (has_items x) (entries_from m a (i + 1) children) (size children) (entries-few s m a (i + 1) children))
+    (cond_both (has_items x) _ empty (λ es. length (ids_given s es) ≤ size children) (λ _. entries-few s m a (i + 1) children) (λ _. omega arith))
     (λ n. entries-few s m n x.end later)
 
 between-few : (xs : List Node) (i end : ℕ) → size (between xs i end) ≤ length xs
@@ -86,13 +82,6 @@ after-count : (s : Size) (m : Meaning) (t : Lowered) (call : Call) → of_size s
 after-count s m t root = added s m t.entries root
 after-count s m t (item n) = added s m t.entries (item n)
 
-not-false : (b : Bool) → not b ≡ false → b ≡ true
-not-false true h = refl
-not-false false h = absurd (false≢true (sym h))
-
-in-limits : (t : Lowered) → table_full t ≡ false → ((plus no_ids t.entries).smalls ≤ 512) × ((plus no_ids t.entries).bigs ≤ 256)
-in-limits t h = let p = and_parts _ _ (not-false _ h) in let q = and_parts _ _ p.1 in (leb-true _ _ p.0, leb-true _ _ q.0)
-
 small-index : (n : Counts) → n.smalls ≤ 10000 → n.bigs ≤ 10000 → index_too_large n ≡ true → ⊥
 small-index n f g h = elim (or_cases _ _ h) [ inl y ↦ (let l = ltb-true 2147483647 n.smalls y in omega (arith, l)) | inr y ↦ (let l = ltb-true 2147483647 n.bigs y in omega (arith, l)) ]
 
@@ -112,7 +101,7 @@ seven false false false false e = let f = ap number e in absurd (omega (arith, f
 pub index_never : IndexNever
 index_never m law calls call e =
     let t = lowered m new calls in
-    let few = in-limits t (limits_stand m calls) in
+    let few = in_limits t (limits_stand m calls) in
     let nodes = (law-stands m law).few_nodes in
     let a = after-count small m t call in
     let b = after-count big m t call in
@@ -133,14 +122,7 @@ one-node m a i x children =
 one-tree : (m : Meaning) (a : Counts) (i : ℕ) (o : Option Node) → lawful m ≡ true → node_at m i ≡ o → length (ids (entries_from m a i (alone m.nodes i o))) ≤ 1
 one-tree m a i None law e = omega arith
 one-tree m a i (Some x) law e =
-    let p = (law-stands m law).placed i x e in
-    let here : get_or m.nodes i x ≡ x = (at_some i m.nodes x e).1 in
-    let up : i < (get_or m.nodes i x).end = subst (λ y. i < y.end) (sym here) p.above in
-    let low : (get_or m.nodes i x).end ≤ x.end = subst (λ y. y.end ≤ x.end) (sym here) (omega arith) in
-    let parts = between_first m.nodes x i x.end p.above p.below up low in
-    let last : between m.nodes (get_or m.nodes i x).end x.end ≡ none = ap (λ y. between m.nodes y.end x.end) here ∙ between_none m.nodes x.end in
-    let whole : between m.nodes i x.end ≡ node (get_or m.nodes i x) (between m.nodes (i + 1) (get_or m.nodes i x).end) none = parts ∙ ap (node (get_or m.nodes i x) (between m.nodes (i + 1) (get_or m.nodes i x).end)) last in
-    subst (λ t. length (ids (entries_from m a i t)) ≤ 1) (sym whole) (one-node m a i (get_or m.nodes i x) (between m.nodes (i + 1) (get_or m.nodes i x).end))
+    subst (λ t. length (ids (entries_from m a i t)) ≤ 1) (sym (between_alone m i x law e)) (one-node m a i x (between m.nodes (i + 1) x.end))
 
 pub one-item : OneItem
 one-item m before n law = one-tree m (plus no_ids before) n (node_at m n) law refl

@@ -1,11 +1,11 @@
 -- An inventory is held by the answers that are read from it, and by no others.
-use Rattle.std.proofs.Common.{◌≡◌, ℕ, ◌<◌, ◌≤◌, Bool, true, false, not, ◌||◌, eqb, List, Some, None, sym, refl, ap, ◌∙◌, subst, inl, inr, arith, eq-eqb}
-use Rattle.std.proofs.lemmas.Bool.{cases_Bool, eqb-true, or_cases, and_parts, leb-true, false≢true}
+use Rattle.std.proofs.Common.{◌≡◌, ℕ, ◌<◌, ◌≤◌, true, false, ◌||◌, eqb, List, Some, None, sym, refl, ap, ◌∙◌, subst, inl, inr, arith, eq-eqb}
+use Rattle.std.proofs.lemmas.Bool.{cases_Bool, eqb-true, or_cases, or_left, or_right, or_parts, false_from_ne_true, false≢true}
 use Rattle.std.specs.Option.{option_map}
 use Rattle.syntax.specs.Meaning.{Meaning}
 use Rattle.items.specs.Attributes.{AttrList}
-use Rattle.rules.proofs.Apart.{Apart, Good, followed_good, entries_good, or-first, or_second, own-id, is_false}
-use Rattle.rules.proofs.RunSteps.{all-kept, limits_stand}
+use Rattle.rules.proofs.Apart.{Apart, Good, followed_good, entries_good, own-id}
+use Rattle.rules.proofs.RunSteps.{all-kept, limits_stand, in_limits}
 use Rattle.rules.specs.Entries.{Size, small, big, id_of, Entry, Entries, empty, entry}
 use Rattle.rules.specs.Holding.{indexed, stored, Each, is_id, top_owner, find, attrs_in, HoldingStands, HoldingOnce}
 use Rattle.rules.specs.Inventory.{Counts, of_size, plus, no_ids, node_tree, root_items}
@@ -24,8 +24,8 @@ each_id : (es : Entries) → Each (λ e. is_id e.id es ≡ true) es
 each_id empty = tt
 each_id (entry e inside later) = (
   own-id e inside later,
-  each_map _ _ (λ (x : Entry) h. or_second (eqb e.id x.id) (is_id x.id inside || is_id x.id later) (or-first (is_id x.id inside) (is_id x.id later) h)) inside (each_id inside),
-  each_map _ _ (λ (x : Entry) h. or_second (eqb e.id x.id) (is_id x.id inside || is_id x.id later) (or_second (is_id x.id inside) (is_id x.id later) h)) later (each_id later),
+  each_map _ _ (λ (x : Entry) h. or_right (eqb e.id x.id) (is_id x.id inside || is_id x.id later) (or_left (is_id x.id inside) (is_id x.id later) h)) inside (each_id inside),
+  each_map _ _ (λ (x : Entry) h. or_right (eqb e.id x.id) (is_id x.id inside || is_id x.id later) (or_right (is_id x.id inside) (is_id x.id later) h)) later (each_id later),
 )
 
 -- where there is an id, there is an entry
@@ -37,28 +37,24 @@ each_at P (entry e inside later) n h k =
       | inr y ↦ elim (or_cases (is_id n inside) (is_id n later) y) [ inl z ↦ each_at P inside n z k.1 | inr z ↦ each_at P later n z k.2 ]
     ]
 
-or_false : (p q : Bool) → (p || q) ≡ false → (p ≡ false) × (q ≡ false)
-or_false true q h = absurd (false≢true (sym h))
-or_false false q h = (refl, h)
-
 find_none : (n : ℕ) (es : Entries) → is_id n es ≡ false → find n es ≡ None
 find_none n empty h = refl
 find_none n (entry e inside later) h =
-    let p = or_false (eqb e.id n) (is_id n inside || is_id n later) h in
-    let q = or_false (is_id n inside) (is_id n later) p.1 in
+    let p = or_parts (eqb e.id n) (is_id n inside || is_id n later) h in
+    let q = or_parts (is_id n inside) (is_id n later) p.1 in
     let a = find_none n inside q.0 in
     let b = find_none n later q.1 in
     rw (p.0, a, b) refl
 
 find-inside : (e x : Entry) (inside later : Entries) → is_id e.id inside ≡ false → (find x.id inside ≡ Some x) × (is_id x.id inside ≡ true) → find x.id (entry e inside later) ≡ Some x
 find-inside e x inside later absent h =
-    let other : eqb e.id x.id ≡ false = is_false _ (λ k. false≢true (sym absent ∙ (ap (λ n. is_id n inside) (eqb-true e.id x.id k) ∙ h.1))) in
+    let other : eqb e.id x.id ≡ false = false_from_ne_true _ (λ k. false≢true (sym absent ∙ (ap (λ n. is_id n inside) (eqb-true e.id x.id k) ∙ h.1))) in
     rw (other, h.0) refl
 
 find-later : (e x : Entry) (inside later : Entries) → is_id e.id later ≡ false → ((n : ℕ) → is_id n inside ≡ true → is_id n later ≡ true → ⊥) → (find x.id later ≡ Some x) × (is_id x.id later ≡ true) → find x.id (entry e inside later) ≡ Some x
 find-later e x inside later absent apart h =
-    let other : eqb e.id x.id ≡ false = is_false _ (λ k. false≢true (sym absent ∙ (ap (λ n. is_id n later) (eqb-true e.id x.id k) ∙ h.1))) in
-    let nowhere = find_none x.id inside (is_false _ (λ k. apart x.id k h.1)) in
+    let other : eqb e.id x.id ≡ false = false_from_ne_true _ (λ k. false≢true (sym absent ∙ (ap (λ n. is_id n later) (eqb-true e.id x.id k) ∙ h.1))) in
+    let nowhere = find_none x.id inside (false_from_ne_true _ (λ k. apart x.id k h.1)) in
     rw (other, nowhere, h.0) refl
 
 each_found : (es : Entries) → Apart es → Each (λ e. find e.id es ≡ Some e) es
@@ -76,24 +72,17 @@ after_good m t (item n) h = followed_good no_ids t.entries (appended m t.entries
 pub run_good : (m : Meaning) (calls : List Call) → Good no_ids (lowered m new calls).entries
 run_good m calls = all-kept (λ t. Good no_ids t.entries) m (λ t call h full. after_good m t call h) calls new (record { ranged = λ n h. absurd (false≢true h); apart = tt })
 
-not-false : (b : Bool) → not b ≡ false → b ≡ true
-not-false true h = refl
-not-false false h = absurd (false≢true (sym h))
-
-few-bigs : (t : Lowered) → table_full t ≡ false → (plus no_ids t.entries).bigs ≤ 256
-few-bigs t h = let p = and_parts _ _ (not-false _ h) in let q = and_parts _ _ p.1 in leb-true _ _ q.0
-
 -- the owner of the top level's attributes is no item's id
 no_such : (s : Size) (k : ℕ) (b : Counts) → b.bigs ≤ 256 → top_owner ≡ id_of s k → k < of_size s b → ⊥
 no_such small k b few e l = omega arith
 no_such big k b few e l = omega arith
 
 no_owner : (t : Lowered) → table_full t ≡ false → Good no_ids t.entries → is_id top_owner t.entries ≡ false
-no_owner t full good = is_false _ (λ h. let p = good.ranged top_owner h in no_such p.size p.index (plus no_ids t.entries) (few-bigs t full) p.is p.to)
+no_owner t full good = false_from_ne_true _ (λ h. let p = good.ranged top_owner h in no_such p.size p.index (plus no_ids t.entries) (in_limits t full).1 p.is p.to)
 
 attrs-here : (es : Entries) (file : AttrList) → is_id top_owner es ≡ false → (e : Entry) → (find e.id es ≡ Some e) × (is_id e.id es ≡ true) → attrs_in es file e.id ≡ Some (stored e.attrs)
 attrs-here es file absent e h =
-    let other : eqb e.id top_owner ≡ false = is_false _ (λ k. false≢true (sym absent ∙ (ap (λ n. is_id n es) (sym (eqb-true e.id top_owner k)) ∙ h.1))) in
+    let other : eqb e.id top_owner ≡ false = false_from_ne_true _ (λ k. false≢true (sym absent ∙ (ap (λ n. is_id n es) (sym (eqb-true e.id top_owner k)) ∙ h.1))) in
     rw (other, h.0) refl
 
 pub holding_stands_lem : HoldingStands

@@ -1,5 +1,6 @@
 -- Ids are given in order, without a gap.
-use Rattle.std.proofs.Common.{◌≡◌, ℕ, zero, suc, ◌+◌, Bool, true, false, cond, List, ◌∷◌, ◌++◌, length, Some, None, Option, sym, refl, ap, ◌∙◌, add-zero, zero-add, arith, length-append}
+use Rattle.std.proofs.Common.{◌≡◌, ℕ, zero, suc, ◌+◌, cond, List, ◌∷◌, ◌++◌, length, Some, None, Option, sym, refl, ap, ◌∙◌, add-zero, zero-add, arith, length-append}
+use Rattle.std.proofs.lemmas.Bool.{cond_both}
 use Rattle.syntax.specs.Meaning.{Meaning}
 use Rattle.syntax.specs.Trees.{Siblings, none, node}
 use Rattle.syntax.specs.declared.walk.NodeRef.{NodeRef}
@@ -59,16 +60,12 @@ placed_row s m earlier x inside later (Some r) f g =
     row-append s (of_size s earlier) (of_size s n) (ids_given s inside) (own s t id ++ ids_given s rest) (counted s inside earlier) f
     (row-append s (of_size s n) (of_size s (plus_one t n)) (own s t id) (ids_given s rest) (own-count s t n id) (own_row s t n) (g (plus_one t n)))
 
-inside-row : (s : Size) (index : ℕ) (b : Bool) (es : Entries) → Row s index (ids_given s es) → Row s index (ids_given s (cond b es empty))
-inside-row s index true es h = h
-inside-row s index false es h = refl
-
 pub entries-row : (s : Size) (m : Meaning) (earlier : Counts) (i : ℕ) (items : Siblings) → Row s (of_size s earlier) (ids_given s (entries_from m earlier i items))
 entries-row s m earlier i none = refl
 entries-row s m earlier i (node x children later) =
     let inside = cond (has_items x) (entries_from m earlier (i + 1) children) empty in
     placed_row s m earlier (record { number = i; node = x }) inside (λ n. entries_from m n x.end later) (record_of m (record { number = i; node = x }) (ids inside))
-    (inside-row s (of_size s earlier) (has_items x) (entries_from m earlier (i + 1) children) (entries-row s m earlier (i + 1) children))
+    (cond_both (has_items x) _ empty (λ es. Row s (of_size s earlier) (ids_given s es)) (λ _. entries-row s m earlier (i + 1) children) (λ _. refl))
     (λ n. entries-row s m n x.end later)
 
 pub ids-stand : IdsStand

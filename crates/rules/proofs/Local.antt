@@ -1,7 +1,7 @@
 -- The imports of a node depend on its part of the source alone.
-use Rattle.std.proofs.Common.{◌≡◌, ℕ, ◌+◌, ◌-◌, ◌<◌, ◌≤◌, Bool, cond, List, length, get_or, take, drop, Some, None, Option, sym, refl, ap, ◌∙◌, subst, inl, inr, arith}
+use Rattle.std.proofs.Common.{◌≡◌, ℕ, ◌+◌, ◌-◌, ◌<◌, ◌≤◌, List, length, get_or, take, drop, Some, None, Option, sym, refl, ap, ◌∙◌, subst, arith}
 use Rattle.std.proofs.lemmas.List.{take-take, drop-drop, drop-take}
-use Rattle.std.proofs.lemmas.Bool.{cases_Bool}
+use Rattle.std.proofs.lemmas.Bool.{cond_both}
 use Rattle.std.specs.Option.{option_map}
 use Rattle.syntax.proofs.Grouping.{between_any, between_first, between_none}
 use Rattle.syntax.proofs.Lawfulness.{law-stands}
@@ -56,18 +56,16 @@ first-stands : (xs : List Node) (k : SyntaxKind) (t : Siblings) (i end : ℕ) (y
 first-stands xs k none i end y in_List same fill e = let z : ◌≡◌ {A = ℕ} 0 1 = cc in absurd (omega arith)
 first-stands xs k (node x below later) i end y in_List same fill e =
     let parts = split xs i end x below later in_List same fill in
-    elim (cases_Bool (is k x.kind)) [
-      | inl this ↦
-          let here : NodeRef = record { number = i; node = x } in
-          let found : ◌≡◌ {A = Option NodeRef} (Some here) (Some y) = subst (λ (b : Bool). cond b (Some here) (first_of k (numbered x.end later)) ≡ Some y) this e in
-          let same-node : here ≡ y = cc in
-          let own : Fill i x.end (node x below none) = (fill.0, omega arith, fill.2, refl) in
-          subst (Stands xs i end) same-node (record { low = omega arith; some = fill.0; high = fill.1; fill = subst (Fill i x.end) (sym parts.2) own })
-      | inr other ↦
-          let further = subst (λ (b : Bool). cond b (Some (record { number = i; node = x })) (first_of k (numbered x.end later)) ≡ Some y) other e in
-          let r = first-stands xs k later x.end end y in_List parts.1 fill.3 further in
-          record { low = omega (arith, fill.0, r.low); some = r.some; high = r.high; fill = r.fill }
-    ]
+    let here : NodeRef = record { number = i; node = x } in
+    cond_both (is k x.kind) (Some here) (first_of k (numbered x.end later)) (λ o. o ≡ Some y → Stands xs i end y)
+    (λ _ found.
+    let same-node : here ≡ y = cc in
+    let own : Fill i x.end (node x below none) = (fill.0, omega arith, fill.2, refl) in
+    subst (Stands xs i end) same-node (record { low = omega arith; some = fill.0; high = fill.1; fill = subst (Fill i x.end) (sym parts.2) own }))
+    (λ _ further.
+    let r = first-stands xs k later x.end end y in_List parts.1 fill.3 further in
+    record { low = omega (arith, fill.0, r.low); some = r.some; high = r.high; fill = r.fill })
+    e
 
 -- two sources with the same nodes from a to before b
 module _ (m n : Meaning) (a b : ℕ) (in_List : b ≤ length m.nodes) (same : take (b - a) (drop a m.nodes) ≡ take (b - a) (drop a n.nodes)) where

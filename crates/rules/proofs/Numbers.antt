@@ -1,12 +1,11 @@
 -- Distinct paths keep their numbers.
-use Rattle.std.proofs.Common.{◌≡◌, Bool, true, false, cond, ◌⊎◌, List, [], ◌∷◌, ◌++◌, sym, refl, ap, ◌∙◌, subst, inl, inr, append_assoc, eq-eqb}
+use Rattle.std.proofs.Common.{◌≡◌, true, false, ◌⊎◌, List, [], ◌∷◌, ◌++◌, sym, refl, ap, ◌∙◌, subst, inl, inr, append_assoc, eq-eqb}
 use Rattle.std.proofs.lemmas.List.{append-nil}
-use Rattle.std.proofs.lemmas.Bool.{cases_Bool, or_cases, false≢true}
+use Rattle.std.proofs.lemmas.Bool.{cond_both, or_cases, false≢true, or_left, or_right, false_from_ne_true}
 use Rattle.paths.specs.Spelling.{Path}
 use Rattle.paths.specs.declared.name.Name.{Name}
 use Rattle.paths.specs.declared.name.Name.TheVariants.{Text, Missing}
 use Rattle.rules.proofs.Alike.{path-same}
-use Rattle.rules.proofs.Apart.{or-first, or_second, is_false}
 use Rattle.rules.specs.Consequences.{NoRepeats, EachOf, DistinctStands, NumbersStay}
 use Rattle.rules.specs.Equality.{same_name, same_names, kind_number, same_path, has, noted, distinct}
 use Rattle.rules.specs.Recorded.{Recorded, taken, module_in, path_in}
@@ -28,53 +27,41 @@ path-itself p =
 -- a list with q, whether q was in it or not
 module _ (q : Path) where
   noted-has : (ps : List Path) → has q (noted ps q) ≡ true
-  noted-has [] = or-first (same_path q q) false (path-itself q)
+  noted-has [] = or_left (same_path q q) false (path-itself q)
   noted-has (p ∷ ps) =
-      elim (cases_Bool (same_path p q)) [
-        | inl y ↦ subst (λ (b : Bool). has q (cond b (p ∷ ps) (p ∷ noted ps q)) ≡ true) (sym y) (or-first (same_path q p) (has q ps) (subst (λ r. same_path q r ≡ true) (sym (path-same p q y)) (path-itself q)))
-        | inr n ↦ subst (λ (b : Bool). has q (cond b (p ∷ ps) (p ∷ noted ps q)) ≡ true) (sym n) (or_second (same_path q p) (has q (noted ps q)) (noted-has ps))
-      ]
+      cond_both (same_path p q) (p ∷ ps) (p ∷ noted ps q) (λ rs. has q rs ≡ true)
+      (λ y. or_left (same_path q p) (has q ps) (subst (λ r. same_path q r ≡ true) (sym (path-same p q y)) (path-itself q)))
+      (λ _. or_right (same_path q p) (has q (noted ps q)) (noted-has ps))
 
   noted-kept : (r : Path) (ps : List Path) → has r ps ≡ true → has r (noted ps q) ≡ true
   noted-kept r [] h = absurd (false≢true h)
   noted-kept r (p ∷ ps) h =
-      elim (cases_Bool (same_path p q)) [
-        | inl y ↦ subst (λ (b : Bool). has r (cond b (p ∷ ps) (p ∷ noted ps q)) ≡ true) (sym y) h
-        | inr n ↦
-            subst (λ (b : Bool). has r (cond b (p ∷ ps) (p ∷ noted ps q)) ≡ true) (sym n)
-            (elim (or_cases (same_path r p) (has r ps) h) [ inl z ↦ or-first (same_path r p) (has r (noted ps q)) z | inr z ↦ or_second (same_path r p) (has r (noted ps q)) (noted-kept r ps z) ])
-      ]
+      cond_both (same_path p q) (p ∷ ps) (p ∷ noted ps q) (λ rs. has r rs ≡ true) (λ _. h)
+      (λ _. elim (or_cases (same_path r p) (has r ps) h) [ inl z ↦ or_left (same_path r p) (has r (noted ps q)) z | inr z ↦ or_right (same_path r p) (has r (noted ps q)) (noted-kept r ps z) ])
 
   -- what is in it was there, or is q
   noted-from : (r : Path) (ps : List Path) → has r (noted ps q) ≡ true → (has r ps ≡ true) ⊎ (same_path r q ≡ true)
   noted-from r [] h = elim (or_cases (same_path r q) false h) [ inl y ↦ inr y | inr y ↦ inl y ]
   noted-from r (p ∷ ps) h =
-      elim (cases_Bool (same_path p q)) [
-        | inl y ↦ inl (subst (λ (b : Bool). has r (cond b (p ∷ ps) (p ∷ noted ps q)) ≡ true) y h)
-        | inr n ↦
-            elim (or_cases (same_path r p) (has r (noted ps q)) (subst (λ (b : Bool). has r (cond b (p ∷ ps) (p ∷ noted ps q)) ≡ true) n h)) [
-              | inl z ↦ inl (or-first (same_path r p) (has r ps) z)
-              | inr z ↦ elim (noted-from r ps z) [ inl w ↦ inl (or_second (same_path r p) (has r ps) w) | inr w ↦ inr w ]
-            ]
-      ]
+      cond_both (same_path p q) (p ∷ ps) (p ∷ noted ps q) (λ rs. has r rs ≡ true → (has r (p ∷ ps) ≡ true) ⊎ (same_path r q ≡ true)) (λ _ k. inl k)
+      (λ _ k. elim (or_cases (same_path r p) (has r (noted ps q)) k) [
+        | inl z ↦ inl (or_left (same_path r p) (has r ps) z)
+        | inr z ↦ elim (noted-from r ps z) [ inl w ↦ inl (or_right (same_path r p) (has r ps) w) | inr w ↦ inr w ]
+      ])
+      h
 
   noted-apart : (ps : List Path) → NoRepeats ps → NoRepeats (noted ps q)
   noted-apart [] h = (refl, tt)
   noted-apart (p ∷ ps) h =
-      elim (cases_Bool (same_path p q)) [
-        | inl y ↦ subst (λ (b : Bool). NoRepeats (cond b (p ∷ ps) (p ∷ noted ps q))) (sym y) h
-        | inr n ↦
-            subst (λ (b : Bool). NoRepeats (cond b (p ∷ ps) (p ∷ noted ps q))) (sym n)
-            (is_false (has p (noted ps q)) (λ k. elim (noted-from p ps k) [ inl w ↦ false≢true (sym h.0 ∙ w) | inr w ↦ false≢true (sym n ∙ w) ]), noted-apart ps h.1)
-      ]
+      cond_both (same_path p q) (p ∷ ps) (p ∷ noted ps q) NoRepeats (λ _. h)
+      (λ n. (false_from_ne_true (has p (noted ps q)) (λ k. elim (noted-from p ps k) [ inl w ↦ false≢true (sym h.0 ∙ w) | inr w ↦ false≢true (sym n ∙ w) ]), noted-apart ps h.1))
 
   noted-front : (ps : List Path) → (more : List Path) × (noted ps q ≡ ps ++ more)
   noted-front [] = (q ∷ [], refl)
   noted-front (p ∷ ps) =
-      elim (cases_Bool (same_path p q)) [
-        | inl y ↦ ([], subst (λ (b : Bool). cond b (p ∷ ps) (p ∷ noted ps q) ≡ p ∷ ps ++ []) (sym y) (ap (λ xs. p ∷ xs) (sym (append-nil ps))))
-        | inr n ↦ (let r = noted-front ps in (r.0, subst (λ (b : Bool). cond b (p ∷ ps) (p ∷ noted ps q) ≡ p ∷ ps ++ r.0) (sym n) (ap (λ xs. p ∷ xs) r.1)))
-      ]
+      cond_both (same_path p q) (p ∷ ps) (p ∷ noted ps q) (λ rs. (more : List Path) × (rs ≡ (p ∷ ps) ++ more))
+      (λ _. ([], ap (λ xs. p ∷ xs) (sym (append-nil ps))))
+      (λ _. let r = noted-front ps in (r.0, ap (λ xs. p ∷ xs) r.1))
 
 distinct_apart : (qs ps : List Path) → NoRepeats ps → NoRepeats (distinct ps qs)
 distinct_apart [] ps h = h
@@ -93,13 +80,13 @@ distinct_from : (r : Path) (qs ps : List Path) → has r (distinct ps qs) ≡ tr
 distinct_from r [] ps h = inl h
 distinct_from r (q ∷ qs) ps h =
     elim (distinct_from r qs (noted ps q) h) [
-      | inl y ↦ elim (noted-from q r ps y) [ inl z ↦ inl z | inr z ↦ inr (or-first (same_path r q) (has r qs) z) ]
-      | inr y ↦ inr (or_second (same_path r q) (has r qs) y)
+      | inl y ↦ elim (noted-from q r ps y) [ inl z ↦ inl z | inr z ↦ inr (or_left (same_path r q) (has r qs) z) ]
+      | inr y ↦ inr (or_right (same_path r q) (has r qs) y)
     ]
 
 each_itself : (ps qs : List Path) → ((r : Path) → has r ps ≡ true → has r qs ≡ true) → EachOf ps qs
 each_itself [] qs h = tt
-each_itself (p ∷ ps) qs h = (h p (or-first (same_path p p) (has p ps) (path-itself p)), each_itself ps qs (λ r k. h r (or_second (same_path r p) (has r ps) k)))
+each_itself (p ∷ ps) qs h = (h p (or_left (same_path p p) (has p ps) (path-itself p)), each_itself ps qs (λ r k. h r (or_right (same_path r p) (has r ps) k)))
 
 pub distinct-stands : DistinctStands
 distinct-stands recorded = (

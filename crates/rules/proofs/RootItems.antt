@@ -1,6 +1,6 @@
 -- Root lowering brings what is brought item by item.
-use Rattle.std.proofs.Common.{◌≡◌, ℕ, ◌+◌, ◌<◌, ◌≤◌, Bool, true, false, cond, eqb, List, ◌∷◌, length, get_or, Some, None, Option, sym, refl, ap, ◌∙◌, subst, inl, inr, arith}
-use Rattle.std.proofs.lemmas.Bool.{cases_Bool, eqb-true, false≢true}
+use Rattle.std.proofs.Common.{◌≡◌, ℕ, ◌+◌, ◌<◌, ◌≤◌, true, false, cond, eqb, List, ◌∷◌, length, get_or, Some, None, Option, sym, refl, ap, ◌∙◌, arith}
+use Rattle.std.proofs.lemmas.Bool.{cond_both, eqb-true, false≢true, false_from_ne_true}
 use Rattle.syntax.proofs.Fronts.{at_in}
 use Rattle.syntax.proofs.Grouping.{between_any}
 use Rattle.syntax.proofs.Lawfulness.{law-stands}
@@ -10,7 +10,7 @@ use Rattle.syntax.specs.Meaning.{Meaning, node_at}
 use Rattle.syntax.specs.Trees.{Siblings, none, node, Fill, between}
 use Rattle.syntax.specs.declared.node.Node.{Node}
 use Rattle.syntax.specs.declared.walk.NodeRef.{NodeRef}
-use Rattle.rules.proofs.Apart.{is_false, plus-followed}
+use Rattle.rules.proofs.Apart.{plus-followed}
 use Rattle.rules.proofs.Local.{split}
 use Rattle.rules.specs.Consequences.{item_numbers, one_by_one, RootIsItems}
 use Rattle.rules.specs.Entries.{Record, record_of, has_items, Entries, empty, entry, ids, followed}
@@ -40,7 +40,7 @@ entries_split m a i x children later =
 
 -- a kind that is no item's
 not-kind : (k n : ℕ) → is_item k ≡ false → is_item n ≡ true → eqb k n ≡ false
-not-kind k n h is-item = is_false (eqb k n) (λ e. false≢true (sym h ∙ (ap is_item (eqb-true k n e) ∙ is-item)))
+not-kind k n h is-item = false_from_ne_true (eqb k n) (λ e. false≢true (sym h ∙ (ap is_item (eqb-true k n e) ∙ is-item)))
 
 pub no_item : (m : Meaning) (x : NodeRef) (inside : List ℕ) → is_item x.node.kind ≡ false → record_of m x inside ≡ None
 no_item m x inside h =
@@ -88,23 +88,20 @@ module _ (m : Meaning) where
   one_by_one_lem none i end before in_List same fill = followed-empty before
   one_by_one_lem (node x children later) i end before in_List same fill =
       let parts = split m.nodes i end x children later in_List same fill in
-      elim (cases_Bool (is_item x.kind)) [
-        | inl y ↦
-            let mine = entries_from m (plus no_ids before) i (node x children none) in
-            let whole = entries_split m (plus no_ids before) i x children later in
-            let brought : appended m before (item i) ≡ mine = ap (entries_from m (plus no_ids before) i) (tree-here i end x children later in_List same fill) in
-            let next = one_by_one_lem later x.end end (followed before mine) in_List parts.1 fill.3 in
-            let counts = plus-followed no_ids before mine in
-            let left : followed before (entries_from m (plus no_ids before) i (node x children later)) ≡ followed (followed before mine) (entries_from m (plus no_ids (followed before mine)) x.end later) =
-            ap (followed before) whole ∙ (sym (followed_assoc before mine (entries_from m (plus (plus no_ids before) mine) x.end later)) ∙ ap (λ n. followed (followed before mine) (entries_from m n x.end later)) (sym counts)) in
-            let right : one_by_one m (followed before mine) (item_numbers (numbered x.end later)) ≡ one_by_one m before (i ∷ item_numbers (numbered x.end later)) =
-            ap (λ es. one_by_one m (followed before es) (item_numbers (numbered x.end later))) (sym brought) in
-            subst (λ (b : Bool). followed before (entries_from m (plus no_ids before) i (node x children later)) ≡ one_by_one m before (cond b (i ∷ item_numbers (numbered x.end later)) (item_numbers (numbered x.end later)))) (sym y) (left ∙ (next ∙ right))
-        | inr n ↦
-            let next = one_by_one_lem later x.end end before in_List parts.1 fill.3 in
-            let left = ap (followed before) (nothing-here m (plus no_ids before) i x children later n) in
-            subst (λ (b : Bool). followed before (entries_from m (plus no_ids before) i (node x children later)) ≡ one_by_one m before (cond b (i ∷ item_numbers (numbered x.end later)) (item_numbers (numbered x.end later)))) (sym n) (left ∙ next)
-      ]
+      cond_both (is_item x.kind) (i ∷ item_numbers (numbered x.end later)) (item_numbers (numbered x.end later))
+      (λ ns. followed before (entries_from m (plus no_ids before) i (node x children later)) ≡ one_by_one m before ns)
+      (λ _.
+      let mine = entries_from m (plus no_ids before) i (node x children none) in
+      let whole = entries_split m (plus no_ids before) i x children later in
+      let brought : appended m before (item i) ≡ mine = ap (entries_from m (plus no_ids before) i) (tree-here i end x children later in_List same fill) in
+      let next = one_by_one_lem later x.end end (followed before mine) in_List parts.1 fill.3 in
+      let counts = plus-followed no_ids before mine in
+      let left : followed before (entries_from m (plus no_ids before) i (node x children later)) ≡ followed (followed before mine) (entries_from m (plus no_ids (followed before mine)) x.end later) =
+      ap (followed before) whole ∙ (sym (followed_assoc before mine (entries_from m (plus (plus no_ids before) mine) x.end later)) ∙ ap (λ n. followed (followed before mine) (entries_from m n x.end later)) (sym counts)) in
+      let right : one_by_one m (followed before mine) (item_numbers (numbered x.end later)) ≡ one_by_one m before (i ∷ item_numbers (numbered x.end later)) =
+      ap (λ es. one_by_one m (followed before es) (item_numbers (numbered x.end later))) (sym brought) in
+      left ∙ (next ∙ right))
+      (λ other. ap (followed before) (nothing-here m (plus no_ids before) i x children later other) ∙ one_by_one_lem later x.end end before in_List parts.1 fill.3)
 
 pub root-is-items : RootIsItems
 root-is-items m file before law here =

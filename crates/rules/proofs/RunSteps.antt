@@ -1,5 +1,6 @@
 -- What every run keeps.
-use Rattle.std.proofs.Common.{◌≡◌, ◌+◌, Bool, true, false, cond, List, [], ◌∷◌, ◌++◌, map, length, Some, None, Option, sym, refl, ap, ◌∙◌, subst, append_assoc, zero-add}
+use Rattle.std.proofs.Common.{◌≡◌, ◌+◌, ◌≤◌, Bool, true, false, cond, List, [], ◌∷◌, ◌++◌, map, length, Some, None, Option, sym, refl, ap, ◌∙◌, subst, append_assoc, zero-add}
+use Rattle.std.proofs.lemmas.Bool.{and_parts, leb-true, not-false}
 use Rattle.syntax.specs.Meaning.{Meaning}
 use Rattle.syntax.specs.declared.refusal.Refusal.{Refusal}
 use Rattle.syntax.specs.declared.refusal.Refusal.TheVariants.{NotAnItem, NotFirst, TableFull, IndexTooLarge}
@@ -29,6 +30,9 @@ module _ (P : Lowered → Type 0) (m : Meaning) (then : (t : Lowered) (call : Ca
 
 pub limits_stand : LimitsStand
 limits_stand m calls = all-kept (λ t. table_full t ≡ false) m (λ t call h full. full) calls new refl
+
+pub in_limits : (t : Lowered) → table_full t ≡ false → ((plus no_ids t.entries).smalls ≤ 512) × ((plus no_ids t.entries).bigs ≤ 256)
+in_limits t h = let p = and_parts _ _ (not-false _ h) in let q = and_parts _ _ p.1 in (leb-true _ _ p.0, leb-true _ _ q.0)
 
 given-followed : (s : Size) (es fs : Entries) → ids_given s (followed es fs) ≡ ids_given s es ++ ids_given s fs
 given-followed s empty fs = refl

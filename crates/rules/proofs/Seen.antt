@@ -1,6 +1,6 @@
 -- A constructor is seen exactly where the struct and each of its fields are.
-use Rattle.std.proofs.Common.{◌≡◌, ℕ, zero, suc, Bool, cond, List, [], ◌∷◌, ◌++◌, Some, None, Option, sym, subst, inl, inr, arith}
-use Rattle.std.proofs.lemmas.Bool.{cases_Bool}
+use Rattle.std.proofs.Common.{◌≡◌, ℕ, zero, suc, List, [], ◌∷◌, ◌++◌, Some, None, Option, subst, arith}
+use Rattle.std.proofs.lemmas.Bool.{cond_both}
 use Rattle.paths.specs.Spelling.{Path}
 use Rattle.items.specs.Written.{Visibility, everywhere, in_crate, in_self, in_module, visibility_of}
 use Rattle.rules.proofs.Alike.{path-same}
@@ -38,21 +38,10 @@ module _ (t : Tree) (home : ℕ) (means : Path → ℕ) where
 
   noted-above : (ps : List Path) (q : Path) → PathsAbove ps → AtOrBelow t home (means q) → PathsAbove (noted ps q)
   noted-above [] q h a = (a, tt)
-  noted-above (p ∷ ps) q h a =
-      elim (cases_Bool (same_path p q)) [
-        | inl y ↦ subst (λ (b : Bool). PathsAbove (cond b (p ∷ ps) (p ∷ noted ps q))) (sym y) h
-        | inr n ↦ subst (λ (b : Bool). PathsAbove (cond b (p ∷ ps) (p ∷ noted ps q))) (sym n) (h.0, noted-above ps q h.1 a)
-      ]
-
-  list-good : (ps : List Path) (p : Path) → PathsAbove (p ∷ ps) → Good (all (p ∷ ps))
-  list-good ps p h = h
+  noted-above (p ∷ ps) q h a = cond_both (same_path p q) (p ∷ ps) (p ∷ noted ps q) PathsAbove (λ _. h) (λ _. (h.0, noted-above ps q h.1 a))
 
   noted-good : (p : Path) (ps : List Path) (q : Path) → PathsAbove (p ∷ ps) → AtOrBelow t home (means q) → Good (all (noted (p ∷ ps) q))
-  noted-good p ps q h a =
-      elim (cases_Bool (same_path p q)) [
-        | inl y ↦ subst (λ (b : Bool). Good (all (cond b (p ∷ ps) (p ∷ noted ps q)))) (sym y) h
-        | inr n ↦ subst (λ (b : Bool). Good (all (cond b (p ∷ ps) (p ∷ noted ps q)))) (sym n) (h.0, noted-above ps q h.1 a)
-      ]
+  noted-good p ps q h a = cond_both (same_path p q) (p ∷ ps) (p ∷ noted ps q) (λ rs. Good (all rs)) (λ _. h) (λ _. (h.0, noted-above ps q h.1 a))
 
   narrowed-good : (c : Constructor) (v : Visibility) → Good c → AtOrAbove t home means v → Good (narrowed c v)
   narrowed-good none v g a = tt
@@ -65,11 +54,7 @@ module _ (t : Tree) (home : ℕ) (means : Path → ℕ) where
   narrowed-good (one (in_module p)) (in_self e) g a = tt
   narrowed-good (one (in_module p)) everywhere g a = g
   narrowed-good (one (in_module p)) in_crate g a = g
-  narrowed-good (one (in_module p)) (in_module q) g a =
-      elim (cases_Bool (same_path p q)) [
-        | inl y ↦ subst (λ (b : Bool). Good (cond b (one (in_module p)) (all (p ∷ q ∷ [])))) (sym y) g
-        | inr n ↦ subst (λ (b : Bool). Good (cond b (one (in_module p)) (all (p ∷ q ∷ [])))) (sym n) (g, (a, tt))
-      ]
+  narrowed-good (one (in_module p)) (in_module q) g a = cond_both (same_path p q) (one (in_module p)) (all (p ∷ q ∷ [])) Good (λ _. g) (λ _. (g, (a, tt)))
   narrowed-good (all []) v g a = absurd g
   narrowed-good (all (p ∷ ps)) (in_self e) g a = tt
   narrowed-good (all (p ∷ ps)) everywhere g a = g
@@ -90,34 +75,20 @@ module _ (t : Tree) (home : ℕ) (means : Path → ℕ) where
     noted-out : (ps : List Path) (q : Path) → UnderEach t means x (noted ps q) → UnderEach t means x ps × Under t (means q) x
     noted-out [] q h = (tt, h.0)
     noted-out (p ∷ ps) q h =
-        elim (cases_Bool (same_path p q)) [
-          | inl y ↦
-              let k = subst (λ (b : Bool). UnderEach t means x (cond b (p ∷ ps) (p ∷ noted ps q))) y h in
-              (k, subst (λ r. Under t (means r) x) (path-same p q y) k.0)
-          | inr n ↦
-              let k = subst (λ (b : Bool). UnderEach t means x (cond b (p ∷ ps) (p ∷ noted ps q))) n h in
-              let r = noted-out ps q k.1 in
-              ((k.0, r.0), r.1)
-        ]
+        cond_both (same_path p q) (p ∷ ps) (p ∷ noted ps q) (λ rs. UnderEach t means x rs → UnderEach t means x (p ∷ ps) × Under t (means q) x)
+        (λ y k. (k, subst (λ r. Under t (means r) x) (path-same p q y) k.0))
+        (λ _ k. let r = noted-out ps q k.1 in ((k.0, r.0), r.1))
+        h
 
     noted_in : (ps : List Path) (q : Path) → UnderEach t means x ps → Under t (means q) x → UnderEach t means x (noted ps q)
     noted_in [] q h s = (s, tt)
-    noted_in (p ∷ ps) q h s =
-        elim (cases_Bool (same_path p q)) [
-          | inl y ↦ subst (λ (b : Bool). UnderEach t means x (cond b (p ∷ ps) (p ∷ noted ps q))) (sym y) h
-          | inr n ↦ subst (λ (b : Bool). UnderEach t means x (cond b (p ∷ ps) (p ∷ noted ps q))) (sym n) (h.0, noted_in ps q h.1 s)
-        ]
+    noted_in (p ∷ ps) q h s = cond_both (same_path p q) (p ∷ ps) (p ∷ noted ps q) (UnderEach t means x) (λ _. h) (λ _. (h.0, noted_in ps q h.1 s))
 
     two-modules : (p q : Path) → Same (Callable t home means x (narrowed (one (in_module p)) (in_module q))) (Under t (means p) x × Under t (means q) x)
     two-modules p q =
-        elim (cases_Bool (same_path p q)) [
-          | inl y ↦
-              subst (λ (b : Bool). Same (Callable t home means x (cond b (one (in_module p)) (all (p ∷ q ∷ [])))) (Under t (means p) x × Under t (means q) x)) (sym y)
-              (λ h. (h, subst (λ r. Under t (means r) x) (path-same p q y) h), λ h. h.0)
-          | inr n ↦
-              subst (λ (b : Bool). Same (Callable t home means x (cond b (one (in_module p)) (all (p ∷ q ∷ [])))) (Under t (means p) x × Under t (means q) x)) (sym n)
-              (λ h. (h.0, h.1.0), λ h. (h.0, (h.1, tt)))
-        ]
+        cond_both (same_path p q) (one (in_module p)) (all (p ∷ q ∷ [])) (λ c. Same (Callable t home means x c) (Under t (means p) x × Under t (means q) x))
+        (λ y. (λ h. (h, subst (λ r. Under t (means r) x) (path-same p q y) h), λ h. h.0))
+        (λ _. (λ h. (h.0, h.1.0), λ h. (h.0, (h.1, tt))))
 
     narrowed-same : (c : Constructor) (v : Visibility) → Good c → AtOrAbove t home means v → Same (Callable t home means x (narrowed c v)) (Callable t home means x c × Admits t home means x v)
     narrowed-same none v g a = (λ h. absurd h, λ h. h.0)

@@ -5,12 +5,11 @@ use Rattle.paths.specs.declared.mod_path.PathKind.{PathKind}
 use Rattle.paths.specs.declared.mod_path.PathKind.TheVariants.{Plain, Super, Crate, Abs, DollarCrate}
 use Rattle.paths.specs.declared.name.Name.{Name}
 use Rattle.paths.specs.declared.name.Name.TheVariants.{Text, Missing}
+pub use Rattle.items.specs.Marks.{expand_word}
 use Rattle.items.specs.Attributes.{Attribute, AttrList, enabled, disabled}
 use Rattle.items.specs.Written.{Visibility, everywhere, in_crate, in_self, in_module}
 use Rattle.items.specs.declared.attrs.AttrInput.{AttrInput}
 use Rattle.items.specs.declared.attrs.AttrInput.TheVariants.{Literal, TokenTree}
-use Rattle.items.specs.declared.records.ExpandTo.{ExpandTo}
-use Rattle.items.specs.declared.records.ExpandTo.TheVariants.{Statements, Items, Pattern, «Type» as Typed, Expr}
 use Rattle.items.specs.declared.use_tree.ImportAlias.{ImportAlias}
 use Rattle.items.specs.declared.use_tree.ImportAlias.TheVariants.{Underscore, Alias}
 use Rattle.rules.specs.Entries.{ModKind, inline, outline, Record, Struct, Union, Enum, Function, TypeAlias, Static, Const, Mod, Trait, Impl, Use, ExternCrate, MacroCall, MacroRules, Macro2, ExternBlock, Entry, Entries, empty, entry}
@@ -144,13 +143,6 @@ record_pieces (Mod n v items) inside = named v (codes "mod ") n (mod_pieces item
 record_pieces (MacroCall p expand) inside = path_pieces p ++ (bytes (codes "!(...);\n") ∷ [])
 record_pieces (MacroRules n) inside = bytes (codes "macro_rules! ") ∷ (name_pieces n ++ (bytes (codes " { ... }\n") ∷ []))
 record_pieces (Macro2 n v) inside = named v (codes "macro ") n (bytes (codes " { ... }\n") ∷ [])
-
-abbrev pub expand_word : ExpandTo → List ℕ
-expand_word Statements = codes "Statements"
-expand_word Items = codes "Items"
-expand_word Pattern = codes "Pattern"
-expand_word Typed = codes "Type"
-expand_word Expr = codes "Expr"
 
 -- what a macro call's first line adds
 abbrev pub call_pieces : Record → List Piece

@@ -13,41 +13,33 @@ ghost use Rattle.rules.specs.Consequences.{ConstructorsHeld, DistinctStands, Ent
 use syntax::source::SyntaxSource;
 
 // The worked examples: sources that keep the law, with the answers that the rules give.
-pub fn examples_stand() -> u8
+pub fn examples_stand()
     ensures { ExamplesStand }
-{
-    0
-}
+{}
 
 // Who sees a tuple struct's constructor.
-pub fn constructors_stand() -> u8
+pub fn constructors_stand()
     ensures exact { ConstructorLaw }
     ensures written { StructLaw }
     ensures held { ConstructorsHeld }
     ensures narrower { FieldsNarrow }
-{
-    0
-}
+{}
 
 // Ids are given in order and without a gap, of each size by itself.
-pub fn ids_stand() -> u8
+pub fn ids_stand()
     ensures { IdsStand }
-{
-    0
-}
+{}
 
 // Places count the lowered use nodes of an item and rise over its imports, which depend on its part of the source alone.
-pub fn imports_stand() -> u8
+pub fn imports_stand()
     ensures rising { PlacesRise }
     ensures leaves { LeavesStand }
     ensures nodes { NodesStand }
     ensures part { ImportsLocal }
-{
-    0
-}
+{}
 
 // What every run of lowering calls keeps, whatever its source.
-pub fn runs_stand() -> u8
+pub fn runs_stand()
     ensures inventory { InventoryStands }
     ensures entries { EntriesStand }
     ensures ids { RunIdsStand }
@@ -55,44 +47,32 @@ pub fn runs_stand() -> u8
     ensures single { OneItem }
     ensures root { RootIsItems }
     ensures never { IndexNever }
-{
-    0
-}
+{}
 
 // Equal paths have one number, which stays theirs.
-pub fn numbers_stand() -> u8
+pub fn numbers_stand()
     ensures distinct { DistinctStands }
     ensures stay { NumbersStay }
-{
-    0
-}
+{}
 
 // An inventory is held by one set of answers.
-pub fn holding_stands() -> u8
+pub fn holding_stands()
     ensures held { HoldingStands }
     ensures once { HoldingOnce }
-{
-    0
-}
+{}
 
 // Any two sources of equal meaning give equal answers, inventories, imports, constructors and texts.
-pub fn sources_agree<S: SyntaxSource, T: SyntaxSource>(first: &S, second: &T) -> u8
+pub fn sources_agree<S: SyntaxSource, T: SyntaxSource>(first: &S, second: &T)
     ensures { S.SyntaxSource.meaning first.now ≡ T.SyntaxSource.meaning second.now → Alike (S.SyntaxSource.meaning first.now) (T.SyntaxSource.meaning second.now) }
-{
-    0
-}
+{}
 
 // Trees that hold what the same calls made of equal sources are read alike.
-pub fn trees_agree() -> u8
+pub fn trees_agree()
     ensures { TreesAgree }
-{
-    0
-}
+{}
 
 // Printing puts the level back, and ends a text with one newline.
-pub fn printing_stands() -> u8
+pub fn printing_stands()
     ensures levels { LevelsBack }
     ensures ending { TextsEnd }
-{
-    0
-}
+{}

@@ -1,8 +1,8 @@
 -- Siblings made of a list: nothing is lost, and the first of them.
-use Rattle.std.proofs.Common.{◌≡◌, ℕ, zero, suc, ◌+◌, ◌-◌, ◌<◌, ◌≤◌, min, List, [], ◌∷◌, length, get_or, take, drop, refl, ap, ◌∙◌, arith, length-drop, length-take}
+use Rattle.std.proofs.Common.{◌≡◌, ℕ, zero, suc, ◌+◌, ◌-◌, ◌<◌, ◌≤◌, min, List, [], ◌∷◌, ◌++◌, length, get_or, take, drop, sym, refl, ap, ◌∙◌, arith, length-append, length-drop, take-append-drop, length-take}
 use Rattle.std.proofs.lemmas.List.{drop_more, drop-drop, drop-take, take-take}
 use Rattle.syntax.specs.declared.node.Node.{Node}
-use Rattle.syntax.specs.Trees.{Siblings, none, node, size, grouped, siblings, between}
+use Rattle.syntax.specs.Trees.{Siblings, none, node, size, listed, grouped, siblings, between}
 
 -- more steps than nodes change nothing
 grouped_enough : (s t i : ℕ) (xs : List Node) → length xs ≤ s → length xs ≤ t → grouped s i xs ≡ grouped t i xs
@@ -25,18 +25,26 @@ siblings-cons i x xs =
     let later = grouped_enough (length xs) (length (drop n xs)) x.end (drop n xs) (omega (arith, length-drop n xs)) (omega arith) in
     λ k. node x (children k) (later k)
 
-size-grouped : (s i : ℕ) (xs : List Node) → length xs ≤ s → size (grouped s i xs) ≡ length xs
-size-grouped zero i [] p = refl
-size-grouped zero i (x ∷ xs) p = absurd (omega arith)
-size-grouped (suc s) i [] p = refl
-size-grouped (suc s) i (x ∷ xs) p =
+-- the tree of a list has that listing
+listed-grouped : (s i : ℕ) (xs : List Node) → length xs ≤ s → listed (grouped s i xs) ≡ xs
+listed-grouped zero i [] p = refl
+listed-grouped zero i (x ∷ xs) p = absurd (omega arith)
+listed-grouped (suc s) i [] p = refl
+listed-grouped (suc s) i (x ∷ xs) p =
     let n : ℕ = x.end - (i + 1) in
-    let children = size-grouped s (i + 1) (take n xs) (omega (arith, length-take n xs)) in
-    let later = size-grouped s x.end (drop n xs) (omega (arith, length-drop n xs)) in
-    omega (arith, children, later, length-take n xs, length-drop n xs)
+    let children = listed-grouped s (i + 1) (take n xs) (omega (arith, length-take n xs)) in
+    let later = listed-grouped s x.end (drop n xs) (omega (arith, length-drop n xs)) in
+    (λ k. x ∷ (children k ++ later k)) ∙ ap (λ l. x ∷ l) (take-append-drop n xs)
+
+pub listed-siblings : (i : ℕ) (xs : List Node) → listed (siblings i xs) ≡ xs
+listed-siblings i xs = listed-grouped (length xs) i xs (omega arith)
+
+pub length-listed : (t : Siblings) → length (listed t) ≡ size t
+length-listed none = refl
+length-listed (node x children later) = omega (arith, length-append (listed children) (listed later), length-listed children, length-listed later)
 
 pub size-siblings : (i : ℕ) (xs : List Node) → size (siblings i xs) ≡ length xs
-size-siblings i xs = size-grouped (length xs) i xs (omega arith)
+size-siblings i xs = sym (length-listed (siblings i xs)) ∙ ap length (listed-siblings i xs)
 
 -- the first of the nodes from i to before `end`
 module _ (xs : List Node) (d : Node) (i end : ℕ) (some : i < end) (in_List : end ≤ length xs) where

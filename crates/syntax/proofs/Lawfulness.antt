@@ -11,8 +11,8 @@ use Rattle.syntax.specs.Trees.{Siblings, none, node, size, height, listed, Fill,
 use Rattle.syntax.specs.Law.{sound, is_child, place_after, are_children, is_file, lawful_nodes, among, is_text, lawful_texts, lawful}
 use Rattle.syntax.specs.Standing.{Taken, FileTree, Placed, Distinct, LawStands}
 use Rattle.syntax.proofs.Fronts.{at_some}
-use Rattle.syntax.proofs.Grouping.{between_any, between_first, size-siblings}
-use Rattle.syntax.proofs.Listing.{listed-siblings, listed-one}
+use Rattle.syntax.proofs.Grouping.{between_any, between_first, listed-siblings, size-siblings}
+use Rattle.syntax.proofs.Listing.{listed-one}
 
 -- children that keep the law
 child_parts : (texts : ℕ) (parent : Node) (least : ℕ) (x : Node) → is_child texts parent least x ≡ true → (sound texts x ≡ true) × (takes parent.kind parent.mark x.kind ≡ true)

@@ -3,3 +3,4 @@ pub mod Grouping
 pub mod Listing
 pub mod Lawfulness
 pub mod Rows
+pub mod Walks

@@ -1,6 +1,8 @@
 -- The children of a node, each with its number.
-use Rattle.std.specs.Prelude.{◌≡◌, ℕ, ◌+◌, ◌≤◌, cond, List, [], ◌∷◌, length, Some, None, Option}
+use Rattle.std.specs.Prelude.{◌≡◌, ℕ, zero, suc, ◌+◌, ◌-◌, ◌≤◌, cond, ◌&&◌, nat_lt, nat_le, List, [], ◌∷◌, length, Some, None, Option}
+use Rattle.std.specs.List.{filter, find}
 use Rattle.syntax.specs.declared.kind.SyntaxKind.{SyntaxKind}
+use Rattle.syntax.specs.declared.node.Node.{Node}
 use Rattle.syntax.specs.declared.walk.NodeRef.{NodeRef}
 use Rattle.syntax.specs.Meaning.{Meaning, node_at}
 use Rattle.syntax.specs.Table.{is}
@@ -33,15 +35,26 @@ pub record Leads (m : Meaning) (i end : ℕ) (x : NodeRef) : Type 0 where
   pub rest : Row m x.node.end end
   pub first : row m i end ≡ x ∷ row m x.node.end end
 
+-- the node of number i, and what `later` meets from its end on, unless the end is not above i, or after `end`
+abbrev pub met_at : (ℕ → List NodeRef) → ℕ → ℕ → Option Node → List NodeRef
+met_at later i end None = []
+met_at later i end (Some x) = cond (nat_lt i x.end && nat_le x.end end) (record { number = i; node = x } ∷ later x.end) []
+
+abbrev pub met : ℕ → Meaning → ℕ → ℕ → List NodeRef
+met zero m end i = []
+met (suc steps) m end i = met_at (met steps m end) i end (node_at m i)
+
+-- what is met from number i on, up to before `end`, where each goes on at the end of the one before
+unfoldable pub walk : Meaning → ℕ → ℕ → List NodeRef
+walk m i end = met (end - i) m end i
+
 -- those of a kind, in order
 abbrev pub of_kind : SyntaxKind → List NodeRef → List NodeRef
-of_kind kind [] = []
-of_kind kind (x ∷ later) = cond (is kind x.node.kind) (x ∷ of_kind kind later) (of_kind kind later)
+of_kind kind = filter (λ x. is kind x.node.kind)
 
 -- the first of a kind
 abbrev pub first_of : SyntaxKind → List NodeRef → Option NodeRef
-first_of kind [] = None
-first_of kind (x ∷ later) = cond (is kind x.node.kind) (Some x) (first_of kind later)
+first_of kind = find (λ x. is kind x.node.kind)
 
 abbrev pub child_of : SyntaxKind → Meaning → NodeRef → Option NodeRef
 child_of kind m x = first_of kind (children m x)

@@ -1,6 +1,7 @@
 -- The number of each kind of node.
-use Rattle.std.specs.Prelude.{ℕ, Bool, ◌&&◌, nat_le}
+use Rattle.std.specs.Prelude.{◌≡◌, ◌≢◌, ℕ, List, ◌++◌, codes, decimal, Bool, ◌&&◌, nat_le, Result, MatchResult}
 use Rattle.syntax.specs.declared.kind.SyntaxKind.{SyntaxKind}
+use Rattle.syntax.specs.declared.kind.UnknownKind.{UnknownKind}
 use Rattle.syntax.specs.declared.kind.SyntaxKind.TheVariants.{File, Struct, Union, Enum, Fn, TypeAlias, Static, Const, Module, Trait, Impl, Use, ExternCrate, MacroCall, MacroRules, MacroDef, ExternBlock, AsmExpr, Vis, Path, Segment, UseTree, Rename, Field, Attr}
 
 abbrev pub number_of : SyntaxKind → ℕ
@@ -33,3 +34,10 @@ number_of Attr = 36
 -- items are the kinds from Struct to AsmExpr
 abbrev pub is_item : ℕ → Bool
 is_item kind = nat_le (number_of Struct) kind && nat_le kind (number_of AsmExpr)
+
+-- the kind that has the number, or an error with a number that no kind has
+abbrev pub Decodes : ℕ → Result SyntaxKind UnknownKind → Type 0
+Decodes number r = MatchResult r (λ kind. number_of kind ≡ number) (λ e. (e.number ≡ number) × ((kind : SyntaxKind) → number_of kind ≢ number))
+
+abbrev pub unknown_text : UnknownKind → List ℕ
+unknown_text unknown = codes "no kind of node has number " ++ decimal unknown.number

@@ -1,107 +1,112 @@
 // The kinds of nodes, by number.
-ghost use Rattle.std.specs.Prelude.{◌≡◌, MatchOption, ◌≢◌};
-ghost use Rattle.syntax.specs.Kinds.{is_item, number_of};
+ghost use Rattle.std.specs.Prelude.{◌≡◌, Some};
+ghost use Rattle.syntax.specs.Kinds.{Decodes, is_item, number_of, unknown_text};
+
+use std::error::Error;
+use std::fmt;
 
 #[derive(Clone, Copy, PartialEq, Eq, Debug)]
 pub enum SyntaxKind {
-    File,
-    Struct,
-    Union,
-    Enum,
-    Fn,
-    TypeAlias,
-    Static,
-    Const,
-    Module,
-    Trait,
-    Impl,
-    Use,
-    ExternCrate,
-    MacroCall,
-    MacroRules,
-    MacroDef,
-    ExternBlock,
-    AsmExpr,
-    Vis,
-    Path,
-    Segment,
-    UseTree,
-    Rename,
-    Field,
-    Attr,
+    File = 0,
+    Struct = 10,
+    Union = 11,
+    Enum = 12,
+    Fn = 13,
+    TypeAlias = 14,
+    Static = 15,
+    Const = 16,
+    Module = 17,
+    Trait = 18,
+    Impl = 19,
+    Use = 20,
+    ExternCrate = 21,
+    MacroCall = 22,
+    MacroRules = 23,
+    MacroDef = 24,
+    ExternBlock = 25,
+    AsmExpr = 26,
+    Vis = 30,
+    Path = 31,
+    Segment = 32,
+    UseTree = 33,
+    Rename = 34,
+    Field = 35,
+    Attr = 36,
+}
+
+impl From<SyntaxKind> for u32 {
+    ghost from_gives = { λ kind number. number ≡ number_of kind };
+
+    fn from(kind: SyntaxKind) -> u32 {
+        kind as u32
+    }
+}
+
+// A number that no kind has.
+#[derive(Clone, Copy, PartialEq, Eq, Debug)]
+pub struct UnknownKind {
+    pub number: u32,
+}
+
+impl fmt::Display for UnknownKind {
+    ghost output = { λ unknown. Some (unknown_text unknown) };
+
+    fn fmt<W: fmt::Write>(&self, f: &mut fmt::Formatter<W>) -> fmt::Result {
+        write!(f, "no kind of node has number {}", self.number)
+    }
+}
+
+impl Error for UnknownKind {}
+
+impl TryFrom<u32> for SyntaxKind {
+    type Error = UnknownKind;
+
+    ghost try_from_gives = { Decodes };
+
+    fn try_from(number: u32) -> Result<SyntaxKind, UnknownKind> {
+        Ok(match number {
+            0 => SyntaxKind::File,
+            10 => SyntaxKind::Struct,
+            11 => SyntaxKind::Union,
+            12 => SyntaxKind::Enum,
+            13 => SyntaxKind::Fn,
+            14 => SyntaxKind::TypeAlias,
+            15 => SyntaxKind::Static,
+            16 => SyntaxKind::Const,
+            17 => SyntaxKind::Module,
+            18 => SyntaxKind::Trait,
+            19 => SyntaxKind::Impl,
+            20 => SyntaxKind::Use,
+            21 => SyntaxKind::ExternCrate,
+            22 => SyntaxKind::MacroCall,
+            23 => SyntaxKind::MacroRules,
+            24 => SyntaxKind::MacroDef,
+            25 => SyntaxKind::ExternBlock,
+            26 => SyntaxKind::AsmExpr,
+            30 => SyntaxKind::Vis,
+            31 => SyntaxKind::Path,
+            32 => SyntaxKind::Segment,
+            33 => SyntaxKind::UseTree,
+            34 => SyntaxKind::Rename,
+            35 => SyntaxKind::Field,
+            36 => SyntaxKind::Attr,
+            _ => return Err(UnknownKind { number }),
+        })
+    }
 }
 
 impl SyntaxKind {
-    pub fn number(self) -> u32
-        ensures { result ≡ number_of self }
+    // Whether a node of this kind is an item.
+    pub fn is_item(self) -> bool
+        ensures { result ≡ is_item (number_of self) }
     {
-        match self {
-            SyntaxKind::File => 0,
-            SyntaxKind::Struct => 10,
-            SyntaxKind::Union => 11,
-            SyntaxKind::Enum => 12,
-            SyntaxKind::Fn => 13,
-            SyntaxKind::TypeAlias => 14,
-            SyntaxKind::Static => 15,
-            SyntaxKind::Const => 16,
-            SyntaxKind::Module => 17,
-            SyntaxKind::Trait => 18,
-            SyntaxKind::Impl => 19,
-            SyntaxKind::Use => 20,
-            SyntaxKind::ExternCrate => 21,
-            SyntaxKind::MacroCall => 22,
-            SyntaxKind::MacroRules => 23,
-            SyntaxKind::MacroDef => 24,
-            SyntaxKind::ExternBlock => 25,
-            SyntaxKind::AsmExpr => 26,
-            SyntaxKind::Vis => 30,
-            SyntaxKind::Path => 31,
-            SyntaxKind::Segment => 32,
-            SyntaxKind::UseTree => 33,
-            SyntaxKind::Rename => 34,
-            SyntaxKind::Field => 35,
-            SyntaxKind::Attr => 36,
-        }
-    }
-
-    // The kind that has this number, if one has.
-    pub fn of(number: u32) -> Option<SyntaxKind>
-        ensures { MatchOption result ((k : SyntaxKind) → number_of k ≢ number) (λ k. number_of k ≡ number) }
-    {
-        match number {
-            0 => Some(SyntaxKind::File),
-            10 => Some(SyntaxKind::Struct),
-            11 => Some(SyntaxKind::Union),
-            12 => Some(SyntaxKind::Enum),
-            13 => Some(SyntaxKind::Fn),
-            14 => Some(SyntaxKind::TypeAlias),
-            15 => Some(SyntaxKind::Static),
-            16 => Some(SyntaxKind::Const),
-            17 => Some(SyntaxKind::Module),
-            18 => Some(SyntaxKind::Trait),
-            19 => Some(SyntaxKind::Impl),
-            20 => Some(SyntaxKind::Use),
-            21 => Some(SyntaxKind::ExternCrate),
-            22 => Some(SyntaxKind::MacroCall),
-            23 => Some(SyntaxKind::MacroRules),
-            24 => Some(SyntaxKind::MacroDef),
-            25 => Some(SyntaxKind::ExternBlock),
-            26 => Some(SyntaxKind::AsmExpr),
-            30 => Some(SyntaxKind::Vis),
-            31 => Some(SyntaxKind::Path),
-            32 => Some(SyntaxKind::Segment),
-            33 => Some(SyntaxKind::UseTree),
-            34 => Some(SyntaxKind::Rename),
-            35 => Some(SyntaxKind::Field),
-            36 => Some(SyntaxKind::Attr),
-            _ => None,
-        }
+        is_item(u32::from(self))
     }
 }
 
-// Whether a node of this kind is an item.
-pub fn is_item(kind: u32) -> bool
+// Whether a node of a kind with this number is an item.
+pub(crate) fn is_item(kind: u32) -> bool
     ensures { result ≡ is_item kind }
 {
-    10 <= kind && kind <= 26
+    matches!(kind, 10..=26)
 }

@@ -2,8 +2,6 @@
 ghost use Rattle.syntax.specs.Standing.{LawStands};
 
 // The law stands: its consequences for every lawful source, in the contract.
-pub fn law_stands() -> u8
+pub fn law_stands()
     ensures { LawStands }
-{
-    0
-}
+{}

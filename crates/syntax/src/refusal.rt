@@ -1,6 +1,9 @@
 // Why a call is declined. Each refusal has a number.
-ghost use Rattle.std.specs.Prelude.{◌≡◌};
-ghost use Rattle.syntax.specs.Refusals.{number_of};
+ghost use Rattle.std.specs.Prelude.{◌≡◌, Some};
+ghost use Rattle.syntax.specs.Refusals.{number_of, text_of};
+
+use std::error::Error;
+use std::fmt;
 
 // How long a caller's buffer or lists have to be.
 #[derive(Clone, Copy, PartialEq, Eq, Debug)]
@@ -36,11 +39,11 @@ pub enum Refusal {
     MissingText,
 }
 
-impl Refusal {
-    pub fn number(self) -> u32
-        ensures { result ≡ number_of self }
-    {
-        match self {
+impl From<Refusal> for u32 {
+    ghost from_gives = { λ refusal number. number ≡ number_of refusal };
+
+    fn from(refusal: Refusal) -> u32 {
+        match refusal {
             Refusal::Form => 1,
             Refusal::Number => 2,
             Refusal::Law => 3,
@@ -54,3 +57,13 @@ impl Refusal {
         }
     }
 }
+
+impl fmt::Display for Refusal {
+    ghost output = { λ refusal. Some (text_of refusal) };
+
+    fn fmt<W: fmt::Write>(&self, f: &mut fmt::Formatter<W>) -> fmt::Result {
+        write!(f, "refused {}", u32::from(*self))
+    }
+}
+
+impl Error for Refusal {}

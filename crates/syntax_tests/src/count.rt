@@ -7,8 +7,5 @@ use syntax::source::SyntaxSource;
 pub fn node_count<S: SyntaxSource>(source: &S) -> u32
     ensures { result ≡ length (S.meaning source.now).nodes }
 {
-    match source.node(0) {
-        Some(root) => root.end,
-        None => 0,
-    }
+    source.node(0).map_or(0, |root| root.end)
 }

@@ -4,6 +4,7 @@ ghost use Rattle.syntax.specs.Law.{lawful};
 ghost use Rattle.syntax_tests.specs.OneModule.{module_meaning};
 
 use crate::count::node_count;
+use syntax::kind::SyntaxKind;
 use syntax::node::Node;
 use syntax::source::SyntaxSource;
 
@@ -14,7 +15,7 @@ pub struct OneModule<'a> {
 }
 
 const FILE: Node = Node {
-    kind: 0,
+    kind: SyntaxKind::File as u32,
     end: 2,
     text: 0,
     mark: 0,
@@ -23,7 +24,7 @@ const FILE: Node = Node {
 };
 
 const MODULE: Node = Node {
-    kind: 17,
+    kind: SyntaxKind::Module as u32,
     end: 2,
     text: 1,
     mark: 1,
@@ -37,15 +38,11 @@ impl<'a> SyntaxSource for OneModule<'a> {
     ghost law = { λ source. source.ruled };
 
     fn node(&self, number: u32) -> Option<Node> {
-        match number {
-            0 => Some(FILE),
-            1 => Some(MODULE),
-            _ => None,
-        }
+        [FILE, MODULE].get(number as usize).copied()
     }
 
     fn text(&self, number: u32) -> Option<&[u8]> {
-        if number == 1 { Some(self.name) } else { None }
+        (number == 1).then_some(self.name)
     }
 }
 

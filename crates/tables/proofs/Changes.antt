@@ -1,29 +1,31 @@
--- What a table holds after a row is added or replaced, or rows are let go of.
-use Rattle.std.proofs.Common.{◌≡◌, ℕ, ◌<◌, ◌≤◌, List, [], ◌∷◌, ◌++◌, length, take, set, Ok, Err, Result, sym, arith, take_all, MatchResult}
-use Rattle.std.proofs.lemmas.List.{set_past}
+-- Rows that are written behind those that a table holds.
+use Rattle.std.proofs.Common.{◌≡◌, ℕ, ◌+◌, ◌-◌, ◌<◌, ◌≤◌, List, ◌++◌, length, take, drop, Ok, Err, Result, sym, ap, ◌∙◌, arith, take-take, length-drop, MatchResult}
+use Rattle.std.proofs.lemmas.List.{drop-take, take-append-le, length-take-le}
+use Rattle.std.proofs.lemmas.List.Edits.{take-paste}
+use Rattle.std.specs.List.{copy_within}
 use Rattle.syntax.specs.declared.refusal.Refusal.{Refusal}
 use Rattle.syntax.specs.declared.refusal.Refusal.TheVariants.{TableFull}
-use Rattle.tables.specs.Held.{held, marked}
-use Rattle.tables.specs.declared.table.Table.{Table}
-use Rattle.tables.proofs.Rows.{length-held, length_marked}
+use lib.Seq.{paste}
 
-module _ {X : Type 0} {n : ℕ} (t : Table X n) where
-  -- past the end there is no row to replace, and none to let go of
-  pub held-set-past : (i : ℕ) (x : X) → t.len ≤ i → held t ≡ set (held t) i x
-  held-set-past i x h = let e = length-held t in let far : length (held t) ≤ i = omega arith in sym (set_past (held t) i x far)
+-- where they find room, all of the rows are added
+pub extended : {X : Type 0} (n : ℕ) (r : Result (Unit {0}) Refusal) (old rows new : List X)
+    → MatchResult r (λ _. (length old + length rows ≤ n) × (new ≡ old ++ rows)) (λ e. (e ≡ TableFull) × (n < length old + length rows) × (new ≡ old))
+    → length old + length rows ≤ n → new ≡ old ++ rows
+extended n (Ok _) old rows new h fits = h.1
+extended n (Err e) old rows new h fits = let full = h.1 in absurd (omega arith)
 
-  pub held-take-past : (i : ℕ) → t.len ≤ i → held t ≡ take i (held t)
-  held-take-past i h = let e = length-held t in let far : length (held t) ≤ i = omega arith in sym (take_all i (held t) far)
+-- what stood before rows that were written at len
+pub front_kept : {X : Type 0} (rows now more : List X) (len count m : ℕ) → take (len + count) now ≡ take len rows ++ more → m ≤ len → len ≤ length rows → take m now ≡ take m rows
+front_kept rows now more len count m e low inside =
+    let l = length-take-le len rows inside in
+    sym (take-take m (len + count) now (omega arith)) ∙ ap (take m) e ∙ take-append-le m (take len rows) more (omega arith) ∙ take-take m len rows low
 
-  pub before_mark : {A : Type 0} (i : ℕ) → i < t.mark → length (marked t) ≤ i → A
-  before_mark i h k = let e = length_marked t in absurd (omega arith)
-
-  pub past_mark : {A : Type 0} (i : ℕ) → t.mark ≤ i → i < length (marked t) → A
-  past_mark i h k = let e = length_marked t in absurd (omega arith)
-
--- a row for which there is room is added
-pub push_room : {X : Type 0} (n : ℕ) (r : Result ℕ Refusal) (old new : List X) (x : X)
-    → MatchResult r (λ index. (index ≡ length old) × (index < n) × (new ≡ old ++ x ∷ [])) (λ e. (e ≡ TableFull) × (length old ≡ n) × (new ≡ old))
-    → length old < n → new ≡ old ++ x ∷ []
-push_room n (Ok i) old new x h l = h.2
-push_room n (Err e) old new x h l = let full = h.1 in absurd (omega arith)
+-- a copy of some rows behind the first len, of which they are
+pub copied : {X : Type 0} (rows now : List X) (len first count : ℕ) → now ≡ copy_within rows first (first + count) len → first + count ≤ len → len + count ≤ length rows → take (len + count) now ≡ take len rows ++ take count (drop first (take len rows))
+copied rows now len first count e low room =
+    let d = length-drop first rows in
+    let n : first + count - first ≡ count = omega arith in
+    let all : len ≡ first + (len - first) = omega arith in
+    let part : take count (drop first (take len rows)) ≡ take count (drop first rows) =
+    ap (λ k. take count (drop first (take k rows))) all ∙ ap (take count) (drop-take first (len - first) rows) ∙ take-take count (len - first) (drop first rows) (omega arith) in
+    ap (take (len + count)) (e ∙ ap (paste rows len (drop first rows)) n) ∙ take-paste rows len (drop first rows) count (omega arith) (omega arith) ∙ ap (λ ys. take len rows ++ ys) (sym part)

@@ -1,8 +1,6 @@
 pub mod Changes
 pub mod Insertion
-pub mod KeyInsertion
 pub mod Places
 pub mod Rows
 pub mod Runs
 pub mod Sets
-pub mod Pushing

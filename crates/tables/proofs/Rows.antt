@@ -14,6 +14,8 @@ pub length_marked : {X : Type 0} {n : ℕ} (t : Table X n) → length (marked t)
 unfolding marked
 length_marked t = let fits = t.fits in simp length-take (omega arith)
 
+pub ruleset lengths = (length-held, length_marked)
+
 pub length-marked-le : {X : Type 0} {n : ℕ} (t : Table X n) → length (marked t) ≤ length (held t)
 length-marked-le t = let fits = t.fits in let e = length-held t in let f = length_marked t in omega arith
 

@@ -1,5 +1,8 @@
 -- Keys of which no two are alike: seeking one, and one more.
-use Rattle.std.proofs.Common.{◌≡◌, ℕ, zero, suc, ◌+◌, ◌<◌, ◌≤◌, Bool, true, false, cond, List, [], ◌∷◌, ◌++◌, length, take, drop, Some, sym, refl, ap, ◌∙◌, arith}
+use Rattle.std.proofs.Common.{◌≡◌, ℕ, zero, suc, ◌+◌, ◌<◌, ◌≤◌, Bool, true, false, cond, List, [], ◌∷◌, ◌++◌, length, take, drop, Some, None, Option, sym, refl, ap, ◌∙◌, arith, zero-add, MatchOption}
+use Rattle.std.specs.Bool.{Decides}
+use Rattle.std.specs.List.{find, range_with_len}
+use Rattle.std.specs.Option.{option_map}
 use Rattle.std.proofs.lemmas.List.{drop_all}
 use Rattle.syntax.specs.Meaning.{at, first}
 use Rattle.tables.specs.Sets.{Equality, Equivalence, has, place, inserted, distinct, same_at}
@@ -28,43 +31,31 @@ from (x ∷ xs) (suc i) h =
 
 module _ {K : Type 0} (same : K → K → Bool) where
   -- ---- seeking
-  -- a search that has come to i without finding
-  pub record Sought (xs : List K) (k : K) (i : ℕ) : Type 0 where
-    pub held : has same xs k ≡ has same (drop i xs) k
-    pub index : place same xs k ≡ i + place same (drop i xs) k
-
-  pub sought_none : (xs : List K) (k : K) → Sought xs k 0
-  sought_none xs k = record { held = refl; index = omega arith }
-
-  -- at a place where a key stands
-  here-is : (xs : List K) (k : K) (i : ℕ) (b : Bool) → i < length xs → b ≡ same_at same (at xs i) k → Sought xs k i
-      → (has same xs k ≡ cond b true (has same (drop (i + 1) xs) k)) × (place same xs k ≡ i + cond b 0 (suc (place same (drop (i + 1) xs) k)))
+  -- the first place from i on where a key alike stands, of n places, which are all that are left
+  found : (xs : List K) (k : K) (i n : ℕ) → i + n ≡ length xs → find (λ j. same_at same (at xs j) k) (range_with_len i n) ≡ cond (has same (drop i xs) k) (Some (i + place same (drop i xs) k)) None
   unfolding has place
-  here-is xs k i b l e s =
-      let f = from xs i l in
-      let t : same f.head k ≡ b = sym (e ∙ ap (λ (ys : List K). same_at same (first ys) k) f.here) in
-      let h : has same (drop i xs) k ≡ cond b true (has same (drop (i + 1) xs) k) =
-      ap (λ (ys : List K). has same ys k) f.here ∙ ap (λ c. cond c true (has same f.rest k)) t ∙ ap (λ (ys : List K). cond b true (has same ys k)) (sym f.next) in
-      let p : place same (drop i xs) k ≡ cond b 0 (suc (place same (drop (i + 1) xs) k)) =
-      ap (λ (ys : List K). place same ys k) f.here ∙ ap (λ c. cond c 0 (suc (place same f.rest k))) t ∙ ap (λ (ys : List K). cond b 0 (suc (place same ys k))) (sym f.next) in
-      (s.held ∙ h, s.index ∙ ap (λ n. i + n) p)
+  found xs k i zero e = sym (ap (λ (ys : List K). cond (has same ys k) (Some (i + place same ys k)) None) (drop_all i xs (omega arith)))
+  found xs k i (suc n) e =
+      let f = from xs i (omega arith) in
+      let r = found xs k (i + 1) n (omega arith) ∙ ap (λ (ys : List K). cond (has same ys k) (Some (i + 1 + place same ys k)) None) f.next in
+      ap (λ (ys : List K). cond (same_at same (first ys) k) (Some i) (find (λ j. same_at same (at xs j) k) (range_with_len (i + 1) n))) f.here
+      ∙ by (same f.head k) (has same f.rest k) (place same f.rest k) _ r
+      ∙ sym (ap (λ (ys : List K). cond (has same ys k) (Some (i + place same ys k)) None) f.here)
+    where
+      by : (b h : Bool) (p : ℕ) (o : Option ℕ) → o ≡ cond h (Some (i + 1 + p)) None → cond b (Some i) o ≡ cond (cond b true h) (Some (i + cond b 0 (suc p))) None
+      by true h p o r = ap Some (omega arith)
+      by false true p o r = r ∙ ap Some (omega arith)
+      by false false p o r = r
 
-  pub sought_more : (xs : List K) (k : K) (i : ℕ) → i < length xs → false ≡ same_at same (at xs i) k → Sought xs k i → Sought xs k (i + 1)
-  sought_more xs k i l e s =
-      let h = here-is xs k i false l e s in
-      let n = h.1 in
-      record { held = h.0; index = omega arith }
-
-  pub sought_found : (xs : List K) (k : K) (i : ℕ) → i < length xs → true ≡ same_at same (at xs i) k → Sought xs k i → (has same xs k ≡ true) × (i ≡ place same xs k)
-  sought_found xs k i l e s =
-      let h = here-is xs k i true l e s in
-      let n = h.1 in
-      let found : i ≡ place same xs k = omega arith in
-      (h.0, found)
-
-  pub sought_all : (xs : List K) (k : K) (i : ℕ) → length xs ≤ i → Sought xs k i → has same xs k ≡ false
-  unfolding has
-  sought_all xs k i l s = s.held ∙ ap (λ (ys : List K). has same ys k) (drop_all i xs l)
+  pub sought : (xs : List K) (k : K) (r : Option ℕ) → option_map (λ i. i) r ≡ find (λ j. same_at same (at xs j) k) (range_with_len 0 (length xs))
+      → MatchOption r (has same xs k ≡ false) (λ i. (has same xs k ≡ true) × (i ≡ place same xs k))
+  sought xs k r e = by r (has same xs k) (place same xs k) (e ∙ found xs k 0 (length xs) (omega arith) ∙ ap (λ n. cond (has same xs k) (Some n) None) (zero-add (place same xs k)))
+    where
+      by : (r : Option ℕ) (h : Bool) (p : ℕ) → option_map (λ i. i) r ≡ cond h (Some p) None → MatchOption r (h ≡ false) (λ i. (h ≡ true) × (i ≡ p))
+      by None false p e = refl
+      by None true p e = cc
+      by (Some i) true p e = (refl, cc)
+      by (Some i) false p e = cc
 
   -- ---- what follows from a key being held or not
   pub inserted-held : (xs : List K) (k : K) → has same xs k ≡ true → inserted same xs k ≡ xs
@@ -195,9 +186,11 @@ module _ {K : Type 0} (same : K → K → Bool) where
       by false h = let l = place-new xs k h in let m = room h in omega arith
 
   -- a test of equality is the comparison
-  pub decided : Equality same → (b : Bool) (x y : K) → (b ≡ true → x ≡ y) → (b ≡ false → x ≡ y → ⊥) → b ≡ same x y
-  decided q true x y equal other = sym (ap (λ z. same z y) (equal refl) ∙ q.itself y)
-  decided q false x y equal other = sym (not-true (same x y) (λ e. other refl (q.only x y e)))
+  pub decided : Equality same → (b : Bool) (o : Option K) (k : K) → Decides b (o ≡ Some k) → b ≡ same_at same o k
+  decided q true None k d = let e = d.0 refl in cc
+  decided q true (Some x) k d = let e : x ≡ k = (let f = d.0 refl in cc) in sym (ap (λ z. same z k) e ∙ q.itself k)
+  decided q false None k d = refl
+  decided q false (Some x) k d = sym (not-true (same x k) (λ e. two_ways (sym (d.1 (ap Some (q.only x k e))))))
 
   -- ---- a key has one number
   has-at : (xs : List K) (i : ℕ) (x k : K) → at xs i ≡ Some x → same x k ≡ true → has same xs k ≡ true

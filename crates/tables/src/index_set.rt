@@ -5,7 +5,8 @@ ghost use Rattle.tables.specs.Insertion.{Inserted};
 
 use syntax::refusal::Refusal;
 
-// A table of keys, as an index set needs it.
+// A table of keys, as an index set needs it. It stands beside `KeySet`, which asks for an equivalence and for keys that are
+// apart: a table that shows neither can be lent to this one.
 pub trait KeyTable<K> {
     ghost count: { Self → ℕ };
 
@@ -26,12 +27,7 @@ pub trait KeyTable<K> {
 fn find<K, T: KeyTable<K>>(table: &T, key: &K) -> Option<usize>
     ensures { IfSome result (λ i. i < T.count table.now) }
 {
-    for index in 0..table.count() {
-        if table.is_at(index, key) {
-            return Some(index);
-        }
-    }
-    None
+    (0..table.count()).find(|index| table.is_at(*index, key))
 }
 
 // The index of a key, which is appended where none is alike.

@@ -1,7 +1,7 @@
 // Keys by index, no two of them alike, and each new one at the end.
 ghost use Rattle.std.specs.Prelude.{◌≡◌, Bool, true, false, List, length, MatchOption};
 ghost use Rattle.syntax.specs.Meaning.{at};
-ghost use Rattle.tables.specs.KeyInsertion.{Appended, KeyInserted};
+ghost use Rattle.tables.specs.Insertion.{Appended, KeyInserted};
 ghost use Rattle.tables.specs.Sets.{Equivalence, Runs, distinct, has, place, same_at};
 
 use syntax::refusal::Refusal;
@@ -49,12 +49,7 @@ pub trait KeySet<K> {
 fn find_key<K, T: KeySet<K>>(table: &T, key: &K) -> Option<usize>
     ensures { MatchOption result (has T.same (T.keys table.now) (T.meant key.now) ≡ false) (λ i. (has T.same (T.keys table.now) (T.meant key.now) ≡ true) × (i ≡ place T.same (T.keys table.now) (T.meant key.now))) }
 {
-    for index in 0..table.key_count() {
-        if table.is_alike(index, key) {
-            return Some(index);
-        }
-    }
-    None
+    (0..table.key_count()).find(|index| table.is_alike(*index, key))
 }
 
 // The index of a key, which is appended where none is alike.

@@ -1,6 +1,7 @@
-// Tables of limited size, and the index set over a table that is lent to it.
+// Tables of limited size, parts of them, and index sets over a table that is lent.
 #![tactic(auto)]
 
 pub mod index_set;
 pub mod key_set;
+pub mod part;
 pub mod table;

@@ -3,9 +3,11 @@ ghost use Rattle.std.specs.Prelude.{◌≡◌, ◌≤◌, length};
 
 pub mod copies;
 pub mod methods;
+pub mod parts;
 pub mod within;
 
 // The array of a table; what stands past the table's length is free.
+// An array in a plain struct of its own, since the library takes no memory at run time.
 #[derive(Clone, Copy)]
 pub struct Rows<T, const N: usize> {
     rows: [T; N],

@@ -1,5 +1,6 @@
 -- What numbers mean while a tree grows: they go on naming what they name, and new ones name what was added.
-use Rattle.std.proofs.Common.{◌≡◌, ℕ, ◌<◌, Bool, true, false, cond, eqb, List, Some, None, Option, refl, ap, ◌∙◌, arith, ne_eqb}
+use Rattle.std.proofs.Common.{◌≡◌, ℕ, ◌<◌, Bool, true, false, cond, eqb, List, Some, None, Option, refl, ap, ◌∙◌, arith}
+use Rattle.std.proofs.lemmas.Bool.Decides.{nat_tests}
 use Rattle.std.specs.Option.{option_map}
 use Rattle.syntax.specs.Meaning.{at}
 use Rattle.tables.specs.Sets.{place, inserted}
@@ -44,10 +45,6 @@ pub path-number : (t : TreeTables) (a b : PathId) (x : Path) → path_at (shown_
 path-number t a b x h k = number_unique same_path path_equivalence (shown_of t).paths a.number b.number x x (paths-apart t.paths) h k (path_equality.itself x)
 
 -- ---- visibilities
-four : {A : Type 0} (a b c d : Bool) (x y z w r : A) → a ≡ false → b ≡ false → c ≡ false → d ≡ false → cond a x (cond b y (cond c z (cond d w r))) ≡ r
-four a b c d x y z w r p q s t =
-    ap (λ v. cond v x (cond b y (cond c z (cond d w r)))) p ∙ ap (λ v. cond v y (cond c z (cond d w r))) q ∙ ap (λ v. cond v z (cond d w r)) s ∙ ap (λ v. cond v w r) t
-
 four_kept : {A : Type 0} (a b c d : Bool) (x y z w r next : Option A) (v : A) → (r ≡ Some v → next ≡ Some v) → cond a x (cond b y (cond c z (cond d w r))) ≡ Some v → cond a x (cond b y (cond c z (cond d w next))) ≡ Some v
 four_kept true b c d x y z w r next v f h = h
 four_kept false true c d x y z w r next v f h = h
@@ -57,9 +54,7 @@ four_kept false false false false x y z w r next v f h = f h
 
 -- the numbers without a row are those of no row
 row-visibility : (rows : List RawVisibility) (n : ℕ) → n < 128 → visibility_at rows n ≡ at rows n
-row-visibility rows n h =
-    four (eqb n 4294967295) (eqb n 4294967294) (eqb n 4294967293) (eqb n 4294967292) _ _ _ _ (at rows n)
-    (ne_eqb n 4294967295 (λ e. omega arith)) (ne_eqb n 4294967294 (λ e. omega arith)) (ne_eqb n 4294967293 (λ e. omega arith)) (ne_eqb n 4294967292 (λ e. omega arith))
+row-visibility rows n h = grind (arith, nat_tests)
 
 -- a recorded visibility has the meaning of its row
 pub visibility_added : (c : Shown) (visibility : RawVisibility) (id : RawVisibilityId) → id.number ≡ place same_visibility c.visibilities visibility → id.number < 128
@@ -72,11 +67,11 @@ visibility_added c visibility id e low =
 
 row_kept : (c d : Shown) (o p : Option RawVisibility) (v : Visibility) → ((x : RawVisibility) → o ≡ Some x → p ≡ Some x) → ((x : RawVisibility) → meant_visibility c x ≡ Some v → meant_visibility d x ≡ Some v)
     → meant_row c o ≡ Some v → meant_row d p ≡ Some v
-row_kept c d None p v f g h = let z : ◌≡◌ {A = ℕ} 0 1 = cc in absurd (omega arith)
+row_kept c d None p v f g h = cc
 row_kept c d (Some x) p v f g h = ap (meant_row d) (f x refl) ∙ g x h
 
 mapped_kept : {A B : Type 0} (m : A → B) (o p : Option A) (v : B) → ((x : A) → o ≡ Some x → p ≡ Some x) → option_map m o ≡ Some v → option_map m p ≡ Some v
-mapped_kept m None p v f h = let z : ◌≡◌ {A = ℕ} 0 1 = cc in absurd (omega arith)
+mapped_kept m None p v f h = cc
 mapped_kept m (Some x) p v f h = ap (option_map m) (f x refl) ∙ h
 
 meant-kept : (c d : Shown) (v : Visibility) → ((id : PathId) (x : Path) → path_at c id ≡ Some x → path_at d id ≡ Some x) → (x : RawVisibility) → meant_visibility c x ≡ Some v → meant_visibility d x ≡ Some v

@@ -3,12 +3,13 @@ use Rattle.std.specs.Prelude.{◌≡◌, ℕ, ◌+◌, ◌-◌, ◌<◌, ◌≤�
 use Rattle.syntax.specs.declared.refusal.Refusal.{Refusal}
 use Rattle.syntax.specs.declared.refusal.Refusal.TheVariants.{TableFull}
 use Rattle.tables.specs.Sets.{has, place}
+use Rattle.tables.specs.declared.part.Part.{Part}
 use Rattle.paths.specs.Alike.{same_path, Room}
 use Rattle.paths.specs.Spelling.{Path}
 use Rattle.paths.specs.declared.interned.PathId.{PathId}
 use Rattle.items.specs.Recorded.{same_visibility}
+use Rattle.items.specs.declared.ids.ModItemId.{ModItemId}
 use Rattle.items.specs.declared.ids.RawVisibilityId.{RawVisibilityId}
-use Rattle.items.specs.declared.records.ItemIds.{ItemIds}
 use Rattle.items.specs.declared.visibility.RawVisibility.{RawVisibility}
 use Rattle.tree_tables.specs.Contents.{Shown, shown_of}
 use Rattle.tree_tables.specs.Growth.{Became, unchanged, add_path, add_visibility}
@@ -36,7 +37,7 @@ AddedAt rows limit change before after r =
     (λ e. (e ≡ TableFull) × (rows ≡ limit) × Became before after unchanged)
 
 -- ids become children, unless the children's table has no room for them
-unfoldable pub HandedOver : ℕ → (Shown → Shown) → TreeTables → TreeTables → Result ItemIds Refusal → Type 0
+unfoldable pub HandedOver : ℕ → (Shown → Shown) → TreeTables → TreeTables → Result (Part ModItemId) Refusal → Type 0
 HandedOver from change before after r =
     let count = length (shown_of before).ids - from in
     MatchResult r

@@ -9,16 +9,17 @@ use Rattle.items.specs.declared.attrs.Attr.{Attr}
 use Rattle.items.specs.declared.attrs.AttrsOrCfg.{AttrsOrCfg}
 use Rattle.items.specs.declared.ids.ModItemId.{ModItemId}
 use Rattle.items.specs.declared.ids.RawVisibilityId.{RawVisibilityId}
-use Rattle.items.specs.declared.rows.BigRow.{BigRow}
-use Rattle.items.specs.declared.rows.SmallRow.{SmallRow}
+use Rattle.items.specs.declared.rows.BigModItem.{BigModItem}
+use Rattle.items.specs.declared.rows.Row.{Row}
+use Rattle.items.specs.declared.rows.SmallModItem.{SmallModItem}
 use Rattle.items.specs.declared.use_tree.UseTree.{UseTree}
 use Rattle.items.specs.declared.visibility.RawVisibility.{RawVisibility}
 use Rattle.tree_tables.specs.declared.tree.TreeTables.{TreeTables}
 
 -- the rows of each table, and the paths as P
 pub record ContentsBy (P : Type 0) : Type 0 where
-  pub small : List SmallRow
-  pub big : List BigRow
+  pub small : List (Row SmallModItem)
+  pub big : List (Row BigModItem)
   pub ids : List ModItemId
   pub children : List ModItemId
   pub attrs : List Attr

@@ -8,10 +8,12 @@ use Rattle.items.specs.declared.attrs.Attr.{Attr}
 use Rattle.items.specs.declared.attrs.AttrsOrCfg.{AttrsOrCfg}
 use Rattle.items.specs.declared.ids.ModItemId.{ModItemId}
 use Rattle.items.specs.declared.ids.RawVisibilityId.{RawVisibilityId}
-use Rattle.items.specs.declared.rows.BigRow.{BigRow}
-use Rattle.items.specs.declared.rows.SmallRow.{SmallRow}
+use Rattle.items.specs.declared.rows.BigModItem.{BigModItem}
+use Rattle.items.specs.declared.rows.Row.{Row}
+use Rattle.items.specs.declared.rows.SmallModItem.{SmallModItem}
 use Rattle.items.specs.declared.use_tree.UseTree.{UseTree}
 use Rattle.items.specs.declared.use_tree.UseTreeKind.{UseTreeKind}
+use Rattle.paths.specs.declared.interned.PathId.{PathId}
 use Rattle.items.specs.declared.visibility.RawVisibility.{RawVisibility}
 use Rattle.tree_tables.specs.Contents.{ContentsBy, Shown, shown_of}
 use Rattle.tree_tables.specs.declared.tree.TreeTables.{TreeTables}
@@ -24,10 +26,10 @@ abbrev pub unchanged : Shown → Shown
 unchanged c = c
 
 -- ---- one table is another, and the rest stays
-abbrev pub with_small : {P : Type 0} → List SmallRow → ContentsBy P → ContentsBy P
+abbrev pub with_small : {P : Type 0} → List (Row SmallModItem) → ContentsBy P → ContentsBy P
 with_small rows c = record { small = rows; big = c.big; ids = c.ids; children = c.children; attrs = c.attrs; top = c.top; visibilities = c.visibilities; ctors = c.ctors; uses = c.uses; paths = c.paths }
 
-abbrev pub with_big : {P : Type 0} → List BigRow → ContentsBy P → ContentsBy P
+abbrev pub with_big : {P : Type 0} → List (Row BigModItem) → ContentsBy P → ContentsBy P
 with_big rows c = record { small = c.small; big = rows; ids = c.ids; children = c.children; attrs = c.attrs; top = c.top; visibilities = c.visibilities; ctors = c.ctors; uses = c.uses; paths = c.paths }
 
 abbrev pub with_ids : {P : Type 0} → List ModItemId → ContentsBy P → ContentsBy P
@@ -56,11 +58,11 @@ with_paths rows c = record { small = c.small; big = c.big; ids = c.ids; children
 
 -- ---- one row more
 -- a small record, with an even id
-abbrev pub add_small : SmallRow → Shown → Shown
+abbrev pub add_small : Row SmallModItem → Shown → Shown
 add_small row c = with_ids (c.ids ++ record { index = 2 * length c.small } ∷ []) (with_small (c.small ++ row ∷ []) c)
 
 -- a big record, with an odd id
-abbrev pub add_big : BigRow → Shown → Shown
+abbrev pub add_big : Row BigModItem → Shown → Shown
 add_big row c = with_ids (c.ids ++ record { index = 2 * length c.big + 1 } ∷ []) (with_big (c.big ++ row ∷ []) c)
 
 abbrev pub add_attr : Attr → Shown → Shown
@@ -69,10 +71,10 @@ add_attr attr c = with_attrs (c.attrs ++ attr ∷ []) c
 abbrev pub add_ctor : RawVisibilityId → Shown → Shown
 add_ctor id c = with_ctors (c.ctors ++ id ∷ []) c
 
-abbrev pub add_use : UseTreeKind → Shown → Shown
+abbrev pub add_use : UseTreeKind PathId → Shown → Shown
 add_use kind c = with_uses (c.uses ++ record { kind = kind } ∷ []) c
 
-abbrev pub replace_use : ℕ → UseTreeKind → Shown → Shown
+abbrev pub replace_use : ℕ → UseTreeKind PathId → Shown → Shown
 replace_use place kind c = with_uses (slice_set c.uses place (record { kind = kind })) c
 
 -- unless an equal one is held

@@ -1,41 +1,26 @@
 -- Attribute lists as parts of the table of attributes.
-use Rattle.std.specs.Prelude.{◌≡◌, ◌+◌, ◌<◌, ◌≤◌, cond, ◌⊎◌, List, [], ◌++◌, length, take, drop, Result, MatchResult, ◌==◌}
+use Rattle.std.specs.Prelude.{◌≡◌, ◌+◌, ◌<◌, ◌≤◌, cond, ◌⊎◌, List, [], ◌++◌, length, Result, MatchResult, ◌==◌}
 use Rattle.syntax.specs.declared.refusal.Refusal.{Refusal}
 use Rattle.syntax.specs.declared.refusal.Refusal.TheVariants.{TableFull, NotFound}
+use Rattle.tables.specs.Parts.{Inside, rows_of}
+use Rattle.tables.specs.declared.part.Part.{Part}
 use Rattle.items.specs.Attributes.{AttrListOf, enabled, disabled, merged}
+use Rattle.items.specs.Records.{part_of}
 use Rattle.items.specs.declared.attrs.Attr.{Attr}
 use Rattle.items.specs.declared.attrs.AttrsOrCfg.{AttrsOrCfg}
 use Rattle.items.specs.declared.attrs.AttrsOrCfg.TheVariants.{Enabled, CfgDisabled}
-use Rattle.items.specs.declared.attrs.AttrsOwned.{AttrsOwned}
 use Rattle.tree_tables.specs.Contents.{Shown, shown_of}
 use Rattle.tree_tables.specs.Growth.{Became, unchanged, with_attrs}
 use Rattle.tree_tables.specs.declared.tree.TreeTables.{TreeTables}
 
--- the rows of a part
-abbrev pub part : List Attr → AttrsOwned → List Attr
-part rows list = take list.count (drop list.first rows)
-
 -- the list that a part and its condition are
 abbrev pub list_in : List Attr → AttrsOrCfg → AttrListOf Attr
-list_in rows (Enabled list) = enabled (part rows list)
-list_in rows (CfgDisabled cfg list) = disabled cfg.text (part rows list)
-
-abbrev pub part_of : AttrsOrCfg → AttrsOwned
-part_of (Enabled list) = list
-part_of (CfgDisabled cfg list) = list
-
--- the list with another part
-abbrev pub with_part : AttrsOrCfg → AttrsOwned → AttrsOrCfg
-with_part (Enabled list) other = Enabled other
-with_part (CfgDisabled cfg list) other = CfgDisabled cfg other
-
--- the part lies in the table
-abbrev pub Inside : List Attr → AttrsOwned → Type 0
-Inside rows list = list.first + list.count ≤ length rows
+list_in rows (Enabled list) = enabled (rows_of rows list)
+list_in rows (CfgDisabled cfg list) = disabled cfg.text (rows_of rows list)
 
 -- what joining two parts writes behind all rows: both, unless one is empty
-abbrev pub copied : List Attr → AttrsOwned → AttrsOwned → List Attr
-copied rows a b = cond (a.count == 0) [] (cond (b.count == 0) [] (part rows a ++ part rows b))
+abbrev pub copied : List Attr → Part Attr → Part Attr → List Attr
+copied rows a b = cond (a.count == 0) [] (cond (b.count == 0) [] (rows_of rows a ++ rows_of rows b))
 
 -- the same of lists: nothing is taken behind a false condition
 abbrev pub written : List Attr → AttrsOrCfg → AttrsOrCfg → List Attr
@@ -46,11 +31,11 @@ abbrev pub add_attrs : List Attr → Shown → Shown
 add_attrs rows c = with_attrs (c.attrs ++ rows) c
 
 -- two parts become one, unless there is no room for the copy
-unfoldable pub Joins : AttrsOwned → AttrsOwned → TreeTables → TreeTables → Result AttrsOwned Refusal → Type 0
+unfoldable pub Joins : Part Attr → Part Attr → TreeTables → TreeTables → Result (Part Attr) Refusal → Type 0
 Joins a b before after r =
     let rows = (shown_of before).attrs in
     MatchResult r
-    (λ list. (length rows + length (copied rows a b) ≤ 512) × Became before after (add_attrs (copied rows a b)) × Inside (shown_of after).attrs list × (part (shown_of after).attrs list ≡ part rows a ++ part rows b))
+    (λ list. (length rows + length (copied rows a b) ≤ 512) × Became before after (add_attrs (copied rows a b)) × Inside (shown_of after).attrs list × (rows_of (shown_of after).attrs list ≡ rows_of rows a ++ rows_of rows b))
     (λ e. (e ≡ TableFull) × (512 < length rows + length (copied rows a b)) × Became before after unchanged)
 
 -- a list is put before another: refused with 8 exactly where one is no part of the table, and then with 6 exactly where there is no room

@@ -1,5 +1,8 @@
 // One record more, with its id.
-ghost use Rattle.std.specs.Prelude.{◌≡◌, ◌+◌, ◌<◌, ◌≤◌, ◌++◌, length, drop, MatchResult};
+// The proof does not close with a ghost field in place of the clauses `marked`: a field beside a `&mut TreeTables` lends the tables under another name.
+#![tactic(auto, unfolding(crate::specs::Contents::marked_of, crate::specs::Growth::Became, crate::specs::Added::Allocated, crate::specs::Added::Added, crate::specs::Added::AddedAt, crate::specs::Added::PathAdded, crate::specs::Added::VisibilityAdded))]
+
+ghost use Rattle.std.specs.Prelude.{◌≡◌, ◌+◌, ◌<◌, ◌≤◌, ◌++◌, [], ◌∷◌, ◌⊎◌, length, drop, MatchResult};
 ghost use Rattle.syntax.specs.declared.refusal.Refusal.TheVariants.{TableFull};
 ghost use Rattle.tables.specs.Held.{held, marked};
 ghost use Rattle.paths.specs.Kept.{read_path};
@@ -21,20 +24,19 @@ use tables::table::Table;
 
 const NONE: FileAstId = FileAstId { node: 0 };
 
-// Appends the rows of one table, from `from` on, to another.
-fn copy_rows(
-    rows: &Table<ModItemId, 768>,
-    from: usize,
-    to: &mut Table<ModItemId, 768>,
+// A record, and its id.
+fn push_with_id<T: Copy, const N: usize>(
+    rows: &mut Table<T, N>,
+    row: T,
+    ids: &mut Table<ModItemId, 768>,
+    id: ModItemId,
 ) -> Result<(), Refusal>
-    ensures copies { MatchResult result (λ _. held to.new ≡ held to.old ++ drop from (held rows.now)) (λ e. (e ≡ TableFull) × (768 < length (held to.old) + length (drop from (held rows.now)))) }
-    ensures marked { marked to.new ≡ marked to.old }
+    ensures pushes { MatchResult result (λ _. (length (held rows.old) < N) × (length (held ids.old) < 768) × (held rows.new ≡ held rows.old ++ row ∷ []) × (held ids.new ≡ held ids.old ++ id ∷ [])) (λ e. (e ≡ TableFull) × ((length (held rows.old) ≡ N) ⊎ (length (held ids.old) ≡ 768))) }
+    ensures rows { marked rows.new ≡ marked rows.old }
+    ensures ids { marked ids.new ≡ marked ids.old }
 {
-    for index in from..rows.len() {
-        if let Some(row) = rows.get(index) {
-            let _ = to.push(row)?;
-        }
-    }
+    let _ = rows.push(row)?;
+    let _ = ids.push(id)?;
     Ok(())
 }
 
@@ -52,7 +54,7 @@ impl TreeTables {
             id: NONE,
             item: BigModItem::Use(Use {
                 visibility: RawVisibilityId::PUB,
-                use_tree: UseTrees { first: 0, count: 0 },
+                use_tree: UseTrees::new(0, 0),
             }),
             attrs: None,
         };
@@ -88,22 +90,16 @@ impl TreeTables {
         ensures allocates { Allocated (length (shown_of self.old).small) 512 (add_small row) self.old self.new result }
         ensures marked { marked_of self.new ≡ marked_of self.old }
     {
-        let index = self.small.len() as u32;
-        let id = ModItemId::new_small(index)?;
-        let _ = self.small.push(row)?;
-        let _ = self.ids.push(id)?;
-        Ok(())
+        let id = ModItemId::new_small(self.small.len() as u32)?;
+        push_with_id(&mut self.small, row, &mut self.ids, id)
     }
 
     pub fn alloc_big(&mut self, row: BigRow) -> Result<(), Refusal>
         ensures allocates { Allocated (length (shown_of self.old).big) 256 (add_big row) self.old self.new result }
         ensures marked { marked_of self.new ≡ marked_of self.old }
     {
-        let index = self.big.len() as u32;
-        let id = ModItemId::new_big(index)?;
-        let _ = self.big.push(row)?;
-        let _ = self.ids.push(id)?;
-        Ok(())
+        let id = ModItemId::new_big(self.big.len() as u32)?;
+        push_with_id(&mut self.big, row, &mut self.ids, id)
     }
 
     // Hands the ids from `from` on over to a node that closes.
@@ -113,13 +109,11 @@ impl TreeTables {
         ensures marked { marked_of self.new ≡ marked_of self.old }
     {
         let first = self.children.len();
-        copy_rows(&self.ids, from, &mut self.children)?;
+        let ids = self.ids.as_slice();
+        self.children
+            .extend_from_slice(&ids[from.min(ids.len())..])?;
         self.ids.truncate(from);
-        let count = self.children.len().saturating_sub(first);
-        Ok(ItemIds {
-            first: first as u32,
-            count: count as u32,
-        })
+        Ok(self.children.part_from(first))
     }
 
     // The number of a path.

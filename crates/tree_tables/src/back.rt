@@ -1,4 +1,7 @@
 // Marking what is there, and going back to it.
+// No plainer by a trait: the two bodies would still name nine tables of three types.
+#![tactic(auto, unfolding(crate::specs::Contents::marked_of))]
+
 ghost use Rattle.std.specs.Prelude.{◌≡◌};
 ghost use Rattle.tree_tables.specs.Contents.{held_of, marked_of};
 

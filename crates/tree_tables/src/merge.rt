@@ -1,32 +1,15 @@
-// Putting one attribute list before another.
+// Putting one attribute list before another. What is marked afterwards is in each contract, as where rows are added.
+#![tactic(auto, using(crate::proofs::Parts::part_append), unfolding(crate::specs::Contents::marked_of, crate::specs::Growth::Became, crate::specs::Lists::Joins, crate::specs::Lists::Merges))]
+
 ghost use Rattle.std.specs.Prelude.{◌≡◌};
+ghost use Rattle.tables.specs.Parts.{Inside};
+ghost use Rattle.items.specs.Records.{part_of};
 ghost use Rattle.tree_tables.specs.Contents.{shown_of, marked_of};
-ghost use Rattle.tree_tables.specs.Lists.{Inside, Joins, Merges, part_of, with_part};
+ghost use Rattle.tree_tables.specs.Lists.{Joins, Merges};
 
 use crate::tree::TreeTables;
 use items::attrs::{AttrsOrCfg, AttrsOwned};
 use syntax::refusal::Refusal;
-
-const MAX_ATTRS: usize = 512;
-
-// The part of the table that a list is.
-fn part_of(list: AttrsOrCfg) -> AttrsOwned
-    ensures { result ≡ part_of list }
-{
-    match list {
-        AttrsOrCfg::Enabled { attrs } | AttrsOrCfg::CfgDisabled { attrs, .. } => attrs,
-    }
-}
-
-// The list with another part of the table.
-fn with_part(list: AttrsOrCfg, attrs: AttrsOwned) -> AttrsOrCfg
-    ensures { result ≡ with_part list attrs }
-{
-    match list {
-        AttrsOrCfg::Enabled { .. } => AttrsOrCfg::Enabled { attrs },
-        AttrsOrCfg::CfgDisabled { cfg, .. } => AttrsOrCfg::CfgDisabled { cfg, attrs },
-    }
-}
 
 impl TreeTables {
     // `first` stands before `second` in the source. Nothing is taken behind a false condition.
@@ -34,12 +17,7 @@ impl TreeTables {
         ensures merges { Merges first second self.old self.new result }
         ensures marked { marked_of self.new ≡ marked_of self.old }
     {
-        let before = part_of(first);
-        let after = part_of(second);
-        let len = self.attrs.len();
-        if before.first as usize + before.count as usize > len
-            || after.first as usize + after.count as usize > len
-        {
+        if self.attrs.part(first.part()).is_none() || self.attrs.part(second.part()).is_none() {
             return Err(Refusal::NotFound);
         }
         self.merge_known(first, second)
@@ -55,8 +33,8 @@ impl TreeTables {
         let AttrsOrCfg::Enabled { attrs: before } = first else {
             return Ok(first);
         };
-        let attrs = self.concat_attrs(before, part_of(second))?;
-        Ok(with_part(second, attrs))
+        let attrs = self.concat_attrs(before, second.part())?;
+        Ok(second.with_part(attrs))
     }
 
     // The attributes of two lists as one: both are copied to the end of the table, unless one is empty.
@@ -74,16 +52,13 @@ impl TreeTables {
         }
         let from = self.attrs.len();
         let count = first.count as usize + second.count as usize;
-        if count > MAX_ATTRS - from {
+        if count > self.attrs.room() {
             return Err(Refusal::TableFull);
         }
         self.attrs
             .extend_from_within(first.first as usize, first.count as usize);
         self.attrs
             .extend_from_within(second.first as usize, second.count as usize);
-        Ok(AttrsOwned {
-            first: from as u32,
-            count: count as u32,
-        })
+        Ok(AttrsOwned::new(from as u32, count as u32))
     }
 }

@@ -1,7 +1,9 @@
 // treedump: makes the lowering calls that its arguments name over a packed form from standard input, and writes out the tree.
 #![tactic(auto)]
 
-use dump::run::{ROOT, dump_packed};
+use dump::calls::ROOT;
+use dump::run::dump_packed;
+use giltnewt::Refusal;
 use std::io::{Read, Write};
 use std::{env, io};
 
@@ -12,14 +14,12 @@ const MAX_BYTES: usize = 65_536;
 const MAX_TEXT: usize = 4_194_304;
 
 // `root`, or a node's number.
+// The C interface has calls as numbers, so they are handed on as such: an enum with FromStr would go back to one.
 fn call_of(word: &str) -> Option<u32> {
     if word == "root" {
         return Some(ROOT);
     }
-    match word.parse::<u32>() {
-        Ok(number) => Some(number),
-        Err(_) => None,
-    }
+    word.parse().ok()
 }
 
 fn main(rt: HostRuntime) -> io::Result<()> {
@@ -34,14 +34,11 @@ fn main(rt: HostRuntime) -> io::Result<()> {
     let mut input = Vec::new(heap);
     let _ = rt.stdin().take(65_537).read_to_end(&mut input)?;
     if input.len() > MAX_BYTES {
-        return rt.println("refused 1");
+        return rt.println(Refusal::Form);
     }
     let mut text = vec![in heap; 0; MAX_TEXT]?;
     match dump_packed(&input, &calls, &mut text) {
         Ok(len) => rt.stdout().write_all(&text[0..len]),
-        Err(refusal) => {
-            let number = refusal.number();
-            println!(rt; "refused {number}")
-        }
+        Err(refusal) => rt.println(refusal),
     }
 }

@@ -1,7 +1,7 @@
 // treeprint: prints the item tree of a packed form that it reads from standard input.
 #![tactic(auto)]
 
-use giltnewt::print_packed;
+use giltnewt::{Refusal, print_packed};
 use std::io;
 use std::io::{Read, Write};
 
@@ -13,14 +13,11 @@ fn main(rt: HostRuntime) -> io::Result<()> {
     let mut input = Vec::new(heap);
     let _ = rt.stdin().take(65_537).read_to_end(&mut input)?;
     if input.len() > MAX_BYTES {
-        return rt.println("refused 1");
+        return rt.println(Refusal::Form);
     }
     let mut text = vec![in heap; 0; MAX_BYTES]?;
     match print_packed(&input, &mut text) {
         Ok(len) => rt.stdout().write_all(&text[0..len]),
-        Err(refusal) => {
-            let number = refusal.number();
-            println!(rt; "refused {number}")
-        }
+        Err(refusal) => rt.println(refusal),
     }
 }

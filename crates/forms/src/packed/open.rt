@@ -5,8 +5,7 @@ ghost use Rattle.forms.specs.PackedOpening.{PackedOpens, PackedRefuses};
 
 use super::PackedSource;
 use super::reader::read_form;
-use crate::judge::is_lawful;
-use crate::tables::{Counts, EMPTY_FILE, NO_SPAN, Tables};
+use crate::tables::NO_TABLES;
 use syntax::node::Node;
 use syntax::refusal::Refusal;
 use syntax::source::SyntaxSource;
@@ -17,7 +16,7 @@ impl<'a> SyntaxSource for PackedSource<'a> {
     ghost law = { λ source. source.ruled };
 
     fn node(&self, number: u32) -> Option<Node> {
-        if number < self.counts.nodes {
+        if number < self.tables.counts.nodes {
             Some(self.tables.nodes[number as usize])
         } else {
             None
@@ -25,13 +24,10 @@ impl<'a> SyntaxSource for PackedSource<'a> {
     }
 
     fn text(&self, number: u32) -> Option<&[u8]> {
-        if number == 0 || number > self.counts.texts {
+        if number == 0 || number > self.tables.counts.texts {
             return None;
         }
-        let span = self.tables.texts[number as usize - 1];
-        let start = span.start;
-        let len = span.len;
-        Some(&self.bytes[start..start + len])
+        Some(self.tables.texts[number as usize - 1].text(self.bytes))
     }
 }
 
@@ -40,14 +36,10 @@ impl<'a> PackedSource<'a> {
     pub fn least() -> PackedSource<'a>
         ensures { meaning_of result ≡ record { nodes = record { kind = 0; end = 1; text = 0; mark = 0; from = 0; to = 0 } ∷ []; texts = [] } }
     {
-        PackedSource {
-            bytes: b"",
-            tables: Tables {
-                nodes: [EMPTY_FILE; 4096],
-                texts: [NO_SPAN; 1024],
-            },
-            counts: Counts { nodes: 1, texts: 0 },
-        }
+        let mut tables = NO_TABLES;
+        tables.nodes[0].end = 1;
+        tables.counts.nodes = 1;
+        PackedSource { bytes: b"", tables }
     }
 
     // Opens the packed form in this slot, or says why not and leaves the slot as it was.
@@ -55,17 +47,12 @@ impl<'a> PackedSource<'a> {
         ensures answers { MatchResult result (λ _. PackedOpens bytes.now (meaning_of self.new)) (λ e. PackedRefuses bytes.now e) }
         ensures keeps { OnErr result (self.new ≡ self.old) }
     {
-        let mut nodes = [EMPTY_FILE; 4096];
-        let mut texts = [NO_SPAN; 1024];
-        let counts = read_form(bytes, &mut nodes, &mut texts)?;
-        if !is_lawful(bytes, &nodes, &texts, counts) {
+        let mut tables = NO_TABLES;
+        read_form(bytes, &mut tables)?;
+        if !tables.is_lawful(bytes) {
             return Err(Refusal::Law);
         }
-        *self = PackedSource {
-            bytes,
-            tables: Tables { nodes, texts },
-            counts,
-        };
+        *self = PackedSource { bytes, tables };
         Ok(())
     }
 }

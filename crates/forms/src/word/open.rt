@@ -5,8 +5,7 @@ ghost use Rattle.forms.specs.WordOpening.{WordOpens, WordRefuses};
 
 use super::WordSource;
 use super::reader::{HEADER, NODE_WORDS, SPAN_WORDS, node_from, read_words, span_from};
-use crate::judge::is_lawful;
-use crate::tables::{EMPTY_FILE, NO_SPAN};
+use crate::tables::NO_TABLES;
 use syntax::node::Node;
 use syntax::refusal::Refusal;
 use syntax::source::SyntaxSource;
@@ -35,9 +34,7 @@ impl<'a, 'b> SyntaxSource for WordSource<'a, 'b> {
         }
         let first = HEADER + NODE_WORDS * words[0] as usize;
         let span = span_from(words, first + SPAN_WORDS * (number as usize - 1));
-        let start = span.start;
-        let len = span.len;
-        Some(&self.bytes[start..start + len])
+        Some(span.text(self.bytes))
     }
 }
 
@@ -52,15 +49,15 @@ impl<'a, 'b> WordSource<'a, 'b> {
         }
     }
 
-    // Opens the word form in this slot, or says why not and leaves the slot as it was.
+    // Opens the word form in this slot, or says why not and leaves the slot as it was. No plainer
+    // as one function with the packed form: what is read and what is stored differ.
     pub fn open(&mut self, words: &'a [u32], bytes: &'b [u8]) -> Result<(), Refusal>
         ensures answers { MatchResult result (λ _. WordOpens words.now bytes.now (meaning_of self.new)) (λ e. WordRefuses words.now bytes.now e) }
         ensures keeps { OnErr result (self.new ≡ self.old) }
     {
-        let mut nodes = [EMPTY_FILE; 4096];
-        let mut texts = [NO_SPAN; 1024];
-        let counts = read_words(words, bytes, &mut nodes, &mut texts)?;
-        if !is_lawful(bytes, &nodes, &texts, counts) {
+        let mut tables = NO_TABLES;
+        read_words(words, bytes, &mut tables)?;
+        if !tables.is_lawful(bytes) {
             return Err(Refusal::Law);
         }
         *self = WordSource { words, bytes };

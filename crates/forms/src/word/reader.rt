@@ -6,7 +6,7 @@ ghost use Rattle.forms.specs.WordOpening.{WordsCut, WordsLong, BadWords};
 ghost use Rattle.forms.specs.WordReading.{Counted, NodesCopied, SpansCopied, SpanPast};
 ghost use Rattle.forms.specs.Words.{WordFormOf, node_from, span_from};
 
-use crate::tables::{Counts, Span, put};
+use crate::tables::{Counts, Span, Tables, put};
 use syntax::node::Node;
 use syntax::refusal::Refusal;
 
@@ -61,6 +61,7 @@ fn read_nodes(words: &[u32], count: u32, table: &mut [Node])
     requires { 2 + 6 * count ≤ length words.now }
     ensures { NodesCopied words.now count table.new }
 {
+    // no plainer by chunks: a number gives its place, as where one node is asked for
     for i in 0..count as usize {
         put(table, i, node_from(words, HEADER + NODE_WORDS * i));
     }
@@ -77,6 +78,7 @@ fn read_spans(
     requires { start + 2 * count ≤ length words.now }
     ensures { MatchResult result (λ _. SpansCopied words.now bytes.now start count table.new) (λ e. (e ≡ Form) × SpanPast words.now bytes.now start count) }
 {
+    // no plainer by chunks, as with nodes
     for i in 0..count as usize {
         let span = span_from(words, start + SPAN_WORDS * i);
         if span.len > bytes.len() || span.start > bytes.len() - span.len {
@@ -88,17 +90,13 @@ fn read_spans(
 }
 
 // The whole form.
-pub(crate) fn read_words(
-    words: &[u32],
-    bytes: &[u8],
-    nodes: &mut [Node],
-    texts: &mut [Span],
-) -> Result<Counts, Refusal>
-    ensures { MatchResult result (λ counts. FormRead (WordFormOf words.now bytes.now) bytes.now nodes.new counts.nodes texts.new counts.texts) (λ e. (e ≡ Form) × BadWords words.now bytes.now) }
+pub(crate) fn read_words(words: &[u32], bytes: &[u8], tables: &mut Tables) -> Result<(), Refusal>
+    ensures { MatchResult result (λ _. FormRead (WordFormOf words.now bytes.now) bytes.now tables.new) (λ e. (e ≡ Form) × BadWords words.now bytes.now) }
 {
     let counts = read_counts(words)?;
     let start = HEADER + NODE_WORDS * counts.nodes as usize;
-    read_spans(words, start, counts.texts, bytes, texts)?;
-    read_nodes(words, counts.nodes, nodes);
-    Ok(counts)
+    read_spans(words, start, counts.texts, bytes, &mut tables.texts)?;
+    read_nodes(words, counts.nodes, &mut tables.nodes);
+    tables.counts = counts;
+    Ok(())
 }

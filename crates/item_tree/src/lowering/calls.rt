@@ -2,16 +2,16 @@
 ghost use Rattle.std.specs.Prelude.{◌≡◌, true, false, length, MatchResult};
 ghost use Rattle.syntax.specs.declared.refusal.Refusal.TheVariants.{NotFirst as TooLate};
 ghost use Rattle.tree_tables.specs.Contents.{empty, held_of, marked_of};
+ghost use Rattle.lower.specs.Keeping.{Keeps};
 
 use crate::lowering::Ctx;
 use crate::lowering::walk::lower_items;
 use items::attrs::AttrsOrCfg;
 use items::ids::ModItemId;
-use lower::attrs::lower_attrs;
-use syntax::kind::is_item;
+use lower::lowering::Lowering;
 use syntax::refusal::Refusal;
 use syntax::source::SyntaxSource;
-use syntax::walk::{NodeRef, sibling_at};
+use syntax::walk::{NodeRef, children};
 use tree_tables::tree::TreeTables;
 
 impl Ctx {
@@ -33,12 +33,14 @@ impl Ctx {
     ) -> Result<Option<ModItemId>, Refusal>
         ensures { MatchResult result (λ _. self.new.begun ≡ true) (λ _. (held_of self.new.tree ≡ held_of self.old.tree) × (self.new.begun ≡ self.old.begun)) }
     {
-        let Some(item) = root_item(source, node) else {
-            return Err(Refusal::NotAnItem);
-        };
+        let item = root_item(source, node).ok_or(Refusal::NotAnItem)?;
         self.tree.set_mark();
         let place = self.tree.next_id_place();
-        let lowered = lower_items(&mut self.tree, source, node, item.node.end);
+        let mut lowering = Lowering {
+            tables: &mut self.tree,
+            source,
+        };
+        let lowered = lower_items(&mut lowering, node, item.node.end);
         self.end_call(lowered)?;
         Ok(self.tree.id_at(place))
     }
@@ -52,7 +54,11 @@ impl Ctx {
             return Err(Refusal::NotFirst);
         }
         self.tree.set_mark();
-        let lowered = lower_file(&mut self.tree, source);
+        let mut lowering = Lowering {
+            tables: &mut self.tree,
+            source,
+        };
+        let lowered = lower_file(&mut lowering);
         let top = self.end_call(lowered)?;
         self.tree.set_top(top);
         Ok(self.tree.next_id_place() as u32)
@@ -62,50 +68,35 @@ impl Ctx {
     fn end_call<T>(&mut self, lowered: Result<T, Refusal>) -> Result<T, Refusal>
         ensures { MatchResult result (λ _. self.new.begun ≡ true) (λ _. (held_of self.new.tree ≡ marked_of self.old.tree) × (self.new.begun ≡ self.old.begun)) }
     {
-        match lowered {
-            Ok(answer) => {
-                self.begun = true;
-                Ok(answer)
-            }
-            Err(refusal) => {
-                self.tree.go_back();
-                Err(refusal)
-            }
+        if lowered.is_ok() {
+            self.begun = true;
+        } else {
+            self.tree.go_back();
         }
+        lowered
     }
 }
 
 // The child of the root that has this number, if it is an item.
 fn root_item<S: SyntaxSource>(source: &S, number: u32) -> Option<NodeRef> {
-    let Some(root) = source.node(0) else {
-        return None;
+    let root = NodeRef {
+        number: 0,
+        node: source.node(0)?,
     };
-    let mut at = 1;
-    while let Some(child) = sibling_at(source, at, root.end) {
-        if child.number == number {
-            return if is_item(child.node.kind) {
-                Some(child)
-            } else {
-                None
-            };
-        }
-        at = child.node.end;
-    }
-    None
+    children(source, root)
+        .find(|child| child.number == number)
+        .filter(|child| child.is_item())
 }
 
 // All that a file holds; answers its own attributes.
-fn lower_file<S: SyntaxSource>(
-    tree: &mut TreeTables,
-    source: &S,
-) -> Result<Option<AttrsOrCfg>, Refusal>
-    ensures { marked_of tree.new ≡ marked_of tree.old }
+fn lower_file<S: SyntaxSource>(lowering: &mut Lowering<S>) -> Result<Option<AttrsOrCfg>, Refusal>
+    ensures { Keeps lowering.old lowering.new }
 {
-    let Some(node) = source.node(0) else {
+    let Some(node) = lowering.source.node(0) else {
         return Ok(None);
     };
     let file = NodeRef { number: 0, node };
-    let top = lower_attrs(tree, source, file)?;
-    lower_items(tree, source, file.first_child(), node.end)?;
+    let top = lowering.lower_attrs(file)?;
+    lower_items(lowering, file.first_child(), node.end)?;
     Ok(top)
 }

@@ -1,24 +1,19 @@
 // The loop that lowers items and those inside them, with a stack of the nodes that are open.
-ghost use Rattle.std.specs.Prelude.{◌≡◌};
-ghost use Rattle.tree_tables.specs.Contents.{marked_of};
+// The stack in place of recursion, and `let .. else` for names, are named forms (docs/DECISIONS.md, 8).
+ghost use Rattle.lower.specs.Keeping.{Keeps};
 
 use items::ids::{FileAstId, RawVisibilityId};
 use items::records::{ExternBlock, Mod, ModKind};
-use items::rows::{BigModItem, BigRow, SmallModItem, SmallRow};
-use lower::attrs::lower_attrs;
-use lower::big::{lower_extern_crate, lower_outline_module, lower_struct, lower_use};
-use lower::small::{
-    lower_const, lower_enum, lower_function, lower_impl, lower_macro_call, lower_macro_def,
-    lower_macro_rules, lower_static, lower_trait, lower_type_alias, lower_union,
-};
-use lower::visibility::lower_visibility;
+use items::rows::{BigModItem, BigRow, ModItem, SmallModItem, SmallRow};
+use lower::lowering::Lowering;
+use lower::small::{lower_impl, lower_macro_rules};
 use paths::name::Name;
 use syntax::kind::SyntaxKind;
 use syntax::node::Node;
 use syntax::refusal::Refusal;
 use syntax::source::SyntaxSource;
 use syntax::walk::{NodeRef, sibling_at};
-use tree_tables::tree::TreeTables;
+use tables::table::Table;
 
 // What is open: an item whose children are lowered before it gets its id.
 #[derive(Clone, Copy)]
@@ -43,6 +38,7 @@ struct Open {
 // Items stand at most this deep.
 const MAX_DEPTH: usize = 40;
 
+// What fills the stack. No plainer with one node of zeros for this and the tables of a form: it would be a public name for a filler.
 const NOTHING_OPEN: Open = Open {
     container: Container::ExternBlock,
     node: NodeRef {
@@ -62,176 +58,136 @@ const NOTHING_OPEN: Open = Open {
 
 // Lowers the items among the siblings from `start` to `stop`.
 pub(crate) fn lower_items<S: SyntaxSource>(
-    tree: &mut TreeTables,
-    source: &S,
+    lowering: &mut Lowering<S>,
     start: u32,
     stop: u32,
 ) -> Result<(), Refusal>
-    ensures { marked_of tree.new ≡ marked_of tree.old }
+    ensures { Keeps lowering.old lowering.new }
 {
-    let mut stack = [NOTHING_OPEN; MAX_DEPTH];
-    let mut depth: usize = 0;
+    let mut stack: Table<Open, MAX_DEPTH> = Table::new(NOTHING_OPEN);
     let mut at = start;
     let mut end = stop;
     loop {
-        let Some(item) = sibling_at(source, at, end) else {
-            if depth == 0 {
+        let Some(item) = sibling_at(lowering.source, at, end) else {
+            let Some(open) = stack.pop() else {
                 return Ok(());
-            }
-            depth -= 1;
-            let open = stack[depth];
-            close(tree, source, open)?;
+            };
+            close(lowering, open)?;
             end = open.outer;
             continue;
         };
-        let container = lower_mod_item(tree, source, item)?;
-        if let Some(container) = container
-            && depth < MAX_DEPTH
-        {
-            let from = tree.next_id_place();
-            stack[depth] = Open {
+        at = item.node.end;
+        if let Some(container) = lower_mod_item(lowering, item)? {
+            let from = lowering.tables.next_id_place();
+            let open = Open {
                 container,
                 node: item,
                 from,
                 outer: end,
             };
-            depth += 1;
-            at += 1;
-            end = item.node.end;
-        } else {
-            at = item.node.end;
+            if stack.push(open).is_ok() {
+                at = item.first_child();
+                end = item.node.end;
+            }
         }
     }
 }
 
 // Lowers a node that has no items inside it, or answers what it opens.
 fn lower_mod_item<S: SyntaxSource>(
-    tree: &mut TreeTables,
-    source: &S,
+    lowering: &mut Lowering<S>,
     item: NodeRef,
 ) -> Result<Option<Container>, Refusal>
-    ensures { marked_of tree.new ≡ marked_of tree.old }
+    ensures { Keeps lowering.old lowering.new }
 {
-    let Some(kind) = SyntaxKind::of(item.node.kind) else {
+    let Ok(kind) = SyntaxKind::try_from(item.node.kind) else {
         return Ok(None);
     };
     match kind {
-        SyntaxKind::Module if item.node.mark == 0 => return open_module(tree, source, item),
-        SyntaxKind::ExternBlock => return Ok(Some(Container::ExternBlock)),
-        _ => {}
-    }
-    if let Some(record) = lower_small_item(tree, source, item, kind)? {
-        add_small(tree, source, item, record)?;
-    } else if let Some(record) = lower_big_item(tree, source, item, kind)? {
-        add_big(tree, source, item, record)?;
-    }
-    Ok(None)
-}
-
-fn lower_small_item<S: SyntaxSource>(
-    tree: &mut TreeTables,
-    source: &S,
-    item: NodeRef,
-    kind: SyntaxKind,
-) -> Result<Option<SmallModItem>, Refusal>
-    ensures { marked_of tree.new ≡ marked_of tree.old }
-{
-    match kind {
-        SyntaxKind::Union => lower_union(tree, source, item),
-        SyntaxKind::Enum => lower_enum(tree, source, item),
-        SyntaxKind::Fn => lower_function(tree, source, item),
-        SyntaxKind::TypeAlias => lower_type_alias(tree, source, item),
-        SyntaxKind::Static => lower_static(tree, source, item),
-        SyntaxKind::Const => lower_const(tree, source, item),
-        SyntaxKind::Trait => lower_trait(tree, source, item),
-        SyntaxKind::Impl => Ok(Some(lower_impl(item))),
-        SyntaxKind::MacroCall => lower_macro_call(tree, source, item),
-        SyntaxKind::MacroRules => Ok(lower_macro_rules(item)),
-        SyntaxKind::MacroDef => lower_macro_def(tree, source, item),
-        _ => Ok(None),
+        // The mark 0 of a module with braces is read here alone: an enum would repeat this one test.
+        SyntaxKind::Module if item.node.mark == 0 => open_module(lowering, item),
+        SyntaxKind::ExternBlock => Ok(Some(Container::ExternBlock)),
+        _ => {
+            if let Some(record) = lower_record(lowering, item, kind)? {
+                add(lowering, item, record)?;
+            }
+            Ok(None)
+        }
     }
 }
 
-fn lower_big_item<S: SyntaxSource>(
-    tree: &mut TreeTables,
-    source: &S,
+// The record of a node that has no items inside it, unless it is passed over.
+fn lower_record<S: SyntaxSource>(
+    lowering: &mut Lowering<S>,
     item: NodeRef,
     kind: SyntaxKind,
-) -> Result<Option<BigModItem>, Refusal>
-    ensures { marked_of tree.new ≡ marked_of tree.old }
+) -> Result<Option<ModItem>, Refusal>
+    ensures { Keeps lowering.old lowering.new }
 {
-    match kind {
-        SyntaxKind::Struct => lower_struct(tree, source, item),
-        SyntaxKind::Use => lower_use(tree, source, item),
-        SyntaxKind::ExternCrate => lower_extern_crate(tree, source, item),
-        SyntaxKind::Module => lower_outline_module(tree, source, item),
-        _ => Ok(None),
-    }
+    Ok(match kind {
+        SyntaxKind::Struct => lowering.lower_struct(item)?.map(ModItem::Big),
+        SyntaxKind::Union => lowering.lower_union(item)?.map(ModItem::Small),
+        SyntaxKind::Enum => lowering.lower_enum(item)?.map(ModItem::Small),
+        SyntaxKind::Fn => lowering.lower_function(item)?.map(ModItem::Small),
+        SyntaxKind::TypeAlias => lowering.lower_type_alias(item)?.map(ModItem::Small),
+        SyntaxKind::Static => lowering.lower_static(item)?.map(ModItem::Small),
+        SyntaxKind::Const => lowering.lower_const(item)?.map(ModItem::Small),
+        SyntaxKind::Module => lowering.lower_outline_module(item)?.map(ModItem::Big),
+        SyntaxKind::Trait => lowering.lower_trait(item)?.map(ModItem::Small),
+        SyntaxKind::Impl => Some(ModItem::Small(lower_impl(item))),
+        SyntaxKind::Use => lowering.lower_use(item)?.map(ModItem::Big),
+        SyntaxKind::ExternCrate => lowering.lower_extern_crate(item)?.map(ModItem::Big),
+        SyntaxKind::MacroCall => lowering.lower_macro_call(item)?.map(ModItem::Small),
+        SyntaxKind::MacroRules => lower_macro_rules(item).map(ModItem::Small),
+        SyntaxKind::MacroDef => lowering.lower_macro_def(item)?.map(ModItem::Small),
+        _ => None,
+    })
 }
 
 // A module with a name is opened.
 fn open_module<S: SyntaxSource>(
-    tree: &mut TreeTables,
-    source: &S,
+    lowering: &mut Lowering<S>,
     module: NodeRef,
 ) -> Result<Option<Container>, Refusal>
-    ensures { marked_of tree.new ≡ marked_of tree.old }
+    ensures { Keeps lowering.old lowering.new }
 {
     let Some(name) = Name::of_text(module.node.text) else {
         return Ok(None);
     };
-    let visibility = lower_visibility(tree, source, module)?;
+    let visibility = lowering.lower_visibility(module)?;
     Ok(Some(Container::Module { name, visibility }))
 }
 
 // Gives a node that was open its record and id.
-fn close<S: SyntaxSource>(tree: &mut TreeTables, source: &S, open: Open) -> Result<(), Refusal>
-    ensures { marked_of tree.new ≡ marked_of tree.old }
+fn close<S: SyntaxSource>(lowering: &mut Lowering<S>, open: Open) -> Result<(), Refusal>
+    ensures { Keeps lowering.old lowering.new }
 {
-    let items = tree.alloc_children(open.from)?;
-    match open.container {
-        Container::Module { name, visibility } => {
-            let kind = ModKind::Inline { items };
-            add_big(
-                tree,
-                source,
-                open.node,
-                BigModItem::Mod(Mod {
-                    name,
-                    visibility,
-                    kind,
-                }),
-            )
-        }
+    let items = lowering.tables.alloc_children(open.from)?;
+    let item = match open.container {
+        Container::Module { name, visibility } => ModItem::Big(BigModItem::Mod(Mod {
+            name,
+            visibility,
+            kind: ModKind::Inline { items },
+        })),
         Container::ExternBlock => {
-            let block = ExternBlock { children: items };
-            add_small(tree, source, open.node, SmallModItem::ExternBlock(block))
+            ModItem::Small(SmallModItem::ExternBlock(ExternBlock { children: items }))
         }
+    };
+    add(lowering, open.node, item)
+}
+
+// Collects the attributes of a node, and gives its record an id.
+fn add<S: SyntaxSource>(
+    lowering: &mut Lowering<S>,
+    node: NodeRef,
+    item: ModItem,
+) -> Result<(), Refusal>
+    ensures { Keeps lowering.old lowering.new }
+{
+    let attrs = lowering.lower_attrs(node)?;
+    let id = FileAstId { node: node.number };
+    match item {
+        ModItem::Small(item) => lowering.tables.alloc_small(SmallRow { id, item, attrs }),
+        ModItem::Big(item) => lowering.tables.alloc_big(BigRow { id, item, attrs }),
     }
-}
-
-fn add_small<S: SyntaxSource>(
-    tree: &mut TreeTables,
-    source: &S,
-    node: NodeRef,
-    item: SmallModItem,
-) -> Result<(), Refusal>
-    ensures { marked_of tree.new ≡ marked_of tree.old }
-{
-    let attrs = lower_attrs(tree, source, node)?;
-    let id = FileAstId { node: node.number };
-    tree.alloc_small(SmallRow { id, item, attrs })
-}
-
-fn add_big<S: SyntaxSource>(
-    tree: &mut TreeTables,
-    source: &S,
-    node: NodeRef,
-    item: BigModItem,
-) -> Result<(), Refusal>
-    ensures { marked_of tree.new ≡ marked_of tree.old }
-{
-    let attrs = lower_attrs(tree, source, node)?;
-    let id = FileAstId { node: node.number };
-    tree.alloc_big(BigRow { id, item, attrs })
 }

@@ -9,22 +9,22 @@ use crate::name::Name;
 impl InternedPath {
     // The path without its names.
     pub fn shape(self) -> PathShape
-        ensures { (result.kind ≡ self.kind) × (result.len ≡ self.count) }
+        ensures { (result.kind ≡ self.kind) × (result.len ≡ self.names.count) }
     {
         PathShape {
             kind: self.kind,
-            len: self.count as usize,
+            len: self.names.count as usize,
         }
     }
 }
 
 impl Paths {
+    // Of a path of another table, the names that stand here: `Table::part` gives no rows where some are missing.
     pub fn names(&self, path: InternedPath) -> &[Name]
         ensures { result.now ≡ (shown self.now path).names }
     {
         let names = self.segments.as_slice();
-        let first = (path.first as usize).min(names.len());
-        let end = (path.first as usize + path.count as usize).min(names.len());
-        &names[first..end]
+        let rest = names.get(path.names.first as usize..).unwrap_or(&[]);
+        rest.get(..path.names.count as usize).unwrap_or(rest)
     }
 }

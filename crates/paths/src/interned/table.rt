@@ -1,12 +1,11 @@
 // Finding and adding paths.
-ghost use Rattle.std.specs.Prelude.{◌≡◌, ◌+◌, ◌<◌, ◌≤◌, true, false, [], ◌++◌, length, IfOk, IfSome, IsOk, ◌≢◌};
+ghost use Rattle.std.specs.Prelude.{◌≡◌, ◌+◌, ◌<◌, ◌≤◌, true, false, [], length, IfOk, IfSome};
 ghost use Rattle.std.specs.Option.{option_map};
 ghost use Rattle.syntax.specs.Meaning.{at};
 ghost use Rattle.tables.specs.Held.{held, marked};
 ghost use Rattle.paths.specs.Alike.{same_path, Room};
 ghost use Rattle.paths.specs.Interning.{Interned};
 ghost use Rattle.paths.specs.Kept.{PathRows, held_paths, marked_paths, paths_in, marked_paths_in, read_path, shown};
-ghost use Rattle.paths.specs.Names.{names_of};
 ghost use Rattle.paths.specs.Same.{path_equivalence, paths-apart};
 ghost use Rattle.paths.specs.Spelling.{Path};
 
@@ -16,9 +15,8 @@ use crate::name::Name;
 use syntax::refusal::Refusal;
 use tables::index_set::KeyTable;
 use tables::key_set::{KeySet, insert_key};
+use tables::part::Part;
 use tables::table::Table;
-
-const MAX_ALL_SEGMENTS: usize = 2048;
 
 impl InternedPath {
     pub fn kind(self) -> PathKind
@@ -29,24 +27,10 @@ impl InternedPath {
 
     // How many names the path has.
     pub fn len(self) -> u32
-        ensures { result ≡ self.count }
+        ensures { result ≡ self.names.count }
     {
-        self.count
+        self.names.count
     }
-}
-
-fn same_kind(a: PathKind, b: PathKind) -> bool
-    ensures equal { result ≡ true → a ≡ b }
-    ensures other { result ≡ false → a ≢ b }
-{
-    a == b
-}
-
-fn same_name(a: Option<Name>, b: Option<Name>) -> bool
-    ensures equal { result ≡ true → a ≡ b }
-    ensures other { result ≡ false → a ≢ b }
-{
-    a == b
 }
 
 impl KeySet<ModPath> for Paths {
@@ -76,30 +60,20 @@ impl KeySet<ModPath> for Paths {
         let Some(part) = self.parts.get(index) else {
             return false;
         };
-        if !same_kind(part.kind, key.kind()) || part.count as usize != key.len() {
-            return false;
-        }
-        for k in 0..part.count {
-            if !same_name(self.segment(part, k), key.segment(k as usize)) {
-                return false;
-            }
-        }
-        true
+        part.kind == key.kind() && self.names(part) == key.names()
     }
 
     fn push_key(&mut self, key: &ModPath) -> Result<usize, Refusal> {
-        let first = self.segments.len();
-        let count = key.len();
-        if count > MAX_ALL_SEGMENTS.saturating_sub(first) {
+        let names = key.names();
+        if names.len() > self.segments.room() {
             return Err(Refusal::TableFull);
         }
         let part = InternedPath {
             kind: key.kind(),
-            first: first as u32,
-            count: count as u32,
+            names: Part::new(self.segments.len() as u32, names.len() as u32),
         };
         let index = self.parts.push(part)?;
-        push_names(&mut self.segments, key)?;
+        self.segments.extend_from_slice(names)?;
         Ok(index)
     }
 }
@@ -123,19 +97,6 @@ impl KeyTable<ModPath> for Paths {
     }
 }
 
-// Appends the names of a path.
-fn push_names(segments: &mut Table<Name, 2048>, path: &ModPath) -> Result<(), Refusal>
-    ensures held { length (held segments.old) + length (names_of path.now) ≤ 2048 → IsOk result × (held segments.new ≡ held segments.old ++ names_of path.now) }
-    ensures marked { marked segments.new ≡ marked segments.old }
-{
-    for k in 0..path.len() {
-        if let Some(name) = path.segment(k) {
-            let _ = segments.push(name)?;
-        }
-    }
-    Ok(())
-}
-
 impl Paths {
     pub fn new() -> Paths
         ensures rows { held_paths result ≡ ([], []) }
@@ -144,8 +105,7 @@ impl Paths {
     {
         let none = InternedPath {
             kind: PathKind::Plain,
-            first: 0,
-            count: 0,
+            names: Part::new(0, 0),
         };
         Paths {
             parts: Table::new(none),
@@ -169,7 +129,7 @@ impl Paths {
     pub fn get(&self, id: PathId) -> Option<InternedPath>
         ensures row { result ≡ at (held self.now.parts) id.number }
         ensures path { option_map (shown self.now) result ≡ at (paths_in self.now) id.number }
-        ensures len { IfSome result (λ part. part.count ≡ length (shown self.now part).names) }
+        ensures len { IfSome result (λ part. part.names.count ≡ length (shown self.now part).names) }
     {
         self.parts.get(id.number as usize)
     }
@@ -177,13 +137,10 @@ impl Paths {
     // The name at an index of a path.
     pub fn segment(&self, path: InternedPath, index: u32) -> Option<Name>
         ensures name { result ≡ at (shown self.now path).names index }
-        ensures within { index < path.count → result ≡ at (held self.now.segments) (path.first + index) }
-        ensures past { path.count ≤ index → result ≡ None }
+        ensures within { index < path.names.count → result ≡ at (held self.now.segments) (path.names.first + index) }
+        ensures past { path.names.count ≤ index → result ≡ None }
     {
-        if index >= path.count {
-            return None;
-        }
-        self.segments.get(path.first as usize + index as usize)
+        self.names(path).get(index as usize).copied()
     }
 
     pub fn set_mark(&mut self)

@@ -1,4 +1,5 @@
 // A table's copy is the table.
+// Written by hand, since the compiler derives no `Clone` for a generic struct with a ghost field.
 ghost use Rattle.std.specs.Prelude.{◌≡◌, ⊤};
 
 use super::Table;

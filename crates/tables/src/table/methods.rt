@@ -1,5 +1,8 @@
 // What can be done with a table.
-ghost use Rattle.std.specs.Prelude.{◌≡◌, ◌<◌, ◌≤◌, [], ◌∷◌, ◌++◌, length, take, MatchResult, slice_set};
+// Each method says what is marked afterwards: no field can, since an invariant knows one state and not the one before.
+#![tactic(auto, using(crate::proofs::Rows::lengths), unfolding(crate::specs::Held::held, crate::specs::Held::marked))]
+
+ghost use Rattle.std.specs.Prelude.{◌≡◌, ◌+◌, ◌<◌, ◌≤◌, [], ◌∷◌, ◌++◌, length, take, MatchOption, MatchResult, slice_set};
 ghost use Rattle.syntax.specs.Meaning.{at};
 ghost use Rattle.syntax.specs.declared.refusal.Refusal.TheVariants.{TableFull};
 ghost use Rattle.tables.specs.Held.{held, marked};
@@ -39,11 +42,7 @@ impl<T: Copy, const N: usize> Table<T, N> {
     pub fn get(&self, index: usize) -> Option<T>
         ensures { result ≡ at (held self.now) index }
     {
-        if index < self.len {
-            Some(self.inner.rows[index])
-        } else {
-            None
-        }
+        self.as_slice().get(index).copied()
     }
 
     // One row more, and its index.
@@ -58,6 +57,18 @@ impl<T: Copy, const N: usize> Table<T, N> {
         self.inner.rows[len] = row;
         self.len = len + 1;
         Ok(len)
+    }
+
+    // Takes the last row off, if it stands past the mark.
+    pub fn pop(&mut self) -> Option<T>
+        ensures pops { MatchOption result ((held self.old ≡ marked self.old) × (held self.new ≡ held self.old)) (λ row. held self.old ≡ held self.new ++ row ∷ []) }
+        ensures marked { marked self.new ≡ marked self.old }
+    {
+        if self.len <= self.mark {
+            return None;
+        }
+        self.len -= 1;
+        Some(self.inner.rows[self.len])
     }
 
     // Another row at an index past the mark; at any other nothing happens.

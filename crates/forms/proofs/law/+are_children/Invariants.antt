@@ -8,8 +8,8 @@ decreases-are_children l = l.levels
 
 abbrev pub invariant-loop-at : goal.invariant-loop-at
 invariant-loop-at l =
-    (l.at ≤ l.parent.end) × (l.count ≤ l.at)
-    × (are_children l.texts l.parent 0 0 l.levels l.first (between l.nodes l.first l.parent.end) ≡ are_children l.texts l.parent l.least l.count l.levels l.at (between l.nodes l.at l.parent.end))
+    (l.at ≤ l.parent.node.end) × (l.count ≤ l.at)
+    × (are_children l.texts l.parent.node 0 0 l.levels l.first (between l.nodes l.first l.parent.node.end) ≡ are_children l.texts l.parent.node l.least l.count l.levels l.at (between l.nodes l.at l.parent.node.end))
 
 abbrev pub decreases-loop-at : goal.decreases-loop-at
-decreases-loop-at l = l.parent.end - l.at
+decreases-loop-at l = l.parent.node.end - l.at

@@ -1,5 +1,6 @@
-use Rattle.std.proofs.Common.{◌≡◌, ◌-◌}
-use Rattle.syntax.specs.Children.{Row, StandsIn, row, of_kind}
+use Rattle.std.proofs.Common.{◌≡◌}
+use Rattle.std.specs.List.{All}
+use Rattle.syntax.specs.Children.{StandsIn, of_kind}
 use Rattle.syntax.specs.declared.kind.SyntaxKind.TheVariants.{Field}
 use Rattle.items.specs.Written.{first_private, private_field}
 use Rattle.lower.proofs.visibility.private_field.Given as goal
@@ -8,7 +9,7 @@ use Rattle.lower.proofs.visibility.private_field.Given as goal
 abbrev pub invariant-loop-child : goal.invariant-loop-child
 invariant-loop-child g l =
     let m = g.S.SyntaxSource.meaning l.source in
-    StandsIn m l.strukt → Row m l.at l.strukt.node.end × (first_private m (of_kind Field (row m l.at l.strukt.node.end)) ≡ private_field m l.strukt)
-
-abbrev pub decreases-loop-child : goal.decreases-loop-child
-decreases-loop-child g l = l.strukt.node.end - l.at
+    (goal.iterator-loop-child g).can_next l.child-iterator
+    × (goal.iterator-loop-child g).is_finite l.child-iterator
+    × All (StandsIn m) l.child-iterator
+    × (StandsIn m l.fn.strukt → first_private m (of_kind Field l.child-iterator) ≡ private_field m l.fn.strukt)

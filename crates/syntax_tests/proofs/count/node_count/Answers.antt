@@ -1,10 +1,10 @@
-use Rattle.std.proofs.Common.{◌≡◌, ap, ◌∙◌}
+use Rattle.std.proofs.Common.{rules, ◌∙◌}
 use Rattle.syntax.proofs.Lawfulness.{file-tree}
-use Rattle.syntax.specs.declared.node.Node.{Node}
 use Rattle.syntax_tests.proofs.count.node_count.Goals as goal
 
-pub returns-in-Some : goal.returns-in-Some
-returns-in-Some g c =
+pub returns : goal.returns
+returns g c =
     let tree = file-tree (g.S.SyntaxSource.meaning c.args.source.now) (g.S.SyntaxSource.law c.args.source.now) in
-    let same : c.in-Some.root ≡ tree.root = cc tree.first in
-    ap (λ (x : Node). x.end) same ∙ tree.last
+    let root = c.node.ensures ∙ tree.first in
+    let last = tree.last in
+    search rules

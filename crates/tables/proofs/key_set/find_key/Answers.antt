@@ -1,21 +1,14 @@
-use Rattle.std.proofs.Common.{◌<◌, ◌≤◌, length, arith}
-use Rattle.tables.proofs.Sets.{sought_none, sought_more, sought_found, sought_all}
+use Rattle.std.proofs.Common.{length, refl, arith, rules}
+use Rattle.std.proofs.lemmas.Iterator.{YieldsList-from_range}
+use Rattle.std.proofs.lemmas.Iterator.Search.{find_from_yields_List}
+use Rattle.syntax.specs.Meaning.{at}
+use Rattle.tables.specs.Sets.{same_at}
+use Rattle.tables.proofs.Sets.{sought}
 use Rattle.tables.proofs.key_set.find_key.Goals as goal
-
-pub loop-index-init : goal.loop-index-init
-loop-index-init g c = sought_none _ _ _
-
-pub returns-then-is_alike : goal.returns-then-is_alike
-returns-then-is_alike g c =
-    let low : c.loop-index.index < length (g.T.KeySet.keys c.args.table.now) = let e = c.key_count-index-end.ensures in omega arith in
-    sought_found _ _ _ _ low c.if-is_alike.ensures c.loop-index.invariant
-
-pub loop-index-preserved : goal.loop-index-preserved
-loop-index-preserved g c =
-    let low : c.loop-index.index < length (g.T.KeySet.keys c.args.table.now) = let e = c.key_count-index-end.ensures in omega arith in
-    sought_more _ _ _ _ low c.if-is_alike.ensures c.loop-index.invariant
 
 pub returns : goal.returns
 returns g c =
-    let high : length (g.T.KeySet.keys c.args.table.now) ≤ c.loop-index.index = let e = c.key_count-index-end.ensures in omega arith in
-    sought_all _ _ _ _ high c.loop-index.invariant
+    let keys = g.T.KeySet.keys c.args.table.now in
+    let key = g.T.KeySet.meant c.args.key.now in
+    sought g.T.KeySet.same keys key c.find.result
+    (find_from_yields_List (λ j. same_at g.T.KeySet.same (at keys j) key) _ _ c.find.result c.find.ensures.ran (YieldsList-from_range 0 c.key_count.result (length keys) refl (omega (arith, c.key_count.ensures))) (λ x b q k. search rules))

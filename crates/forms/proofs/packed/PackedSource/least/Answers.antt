@@ -6,7 +6,6 @@ pub invariant_of-result : goal.invariant_of-result
 unfolding sound lawful_nodes lawful
 invariant_of-result c = record {
   few = (omega arith, omega arith);
-  room = (refl, refl);
   within = λ k less. absurd (omega arith);
   ruled = refl;
 }

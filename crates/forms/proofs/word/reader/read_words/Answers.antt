@@ -10,4 +10,4 @@ returns-in_err-read_spans c =
     rw (p.1, p.2) (past.0, inr (inr (outside c.args.words.now c.args.bytes.now _ _ c.in_ok-counts.ensures past.1)))
 
 pub returns : goal.returns
-returns c = whole_words c.args.words.now c.args.bytes.now _ _ c.in_ok-counts.ensures _ _ c.read_nodes.ensures c.in_ok-read_spans.ensures
+returns c = whole_words c.args.words.now c.args.bytes.now _ _ c.in_ok-counts.ensures _ _ c.read_nodes.ensures c.in_ok-read_spans.ensures _

@@ -1,12 +1,8 @@
-use Rattle.std.proofs.Common.{◌-◌, ◌≤◌, length}
-use Rattle.syntax.specs.Children.{row, Row}
+use Rattle.std.proofs.Common.{◌+◌, ◌≤◌, length}
+use Rattle.paths.specs.Names.{names_of}
+use Rattle.paths.specs.Reading.{meant}
 use Rattle.paths.proofs.Naming.{Naming}
 use Rattle.paths.proofs.mod_path.read.with_names.Given as goal
 
 abbrev pub invariant-loop-segment : goal.invariant-loop-segment
-invariant-loop-segment g l =
-    let m = g.S.SyntaxSource.meaning l.source in
-    Row m l.initial.at l.end → length (row m l.initial.at l.end) ≤ 64 → Naming m l.initial.path.kind l.initial.at l.end l.at l.path
-
-abbrev pub decreases-loop-segment : goal.decreases-loop-segment
-decreases-loop-segment g l = l.end - l.at
+invariant-loop-segment g l = length (names_of l.initial.path) + length l.initial.segment-iterator ≤ 64 → Naming (meant l.initial.path) l.initial.segment-iterator l.segment-iterator l.path

@@ -1,6 +1,7 @@
-use Rattle.std.proofs.Common.{◌≡◌, ℕ, ◌+◌, ◌-◌, ◌≤◌, length, take, drop, sym, ap, ◌∙◌, subst, arith}
+use Rattle.std.proofs.Common.{ℕ, ◌-◌, ◌<◌, ◌≤◌, length, sym, ap, ◌∙◌, subst, arith}
 use Rattle.std.proofs.lemmas.Bool.Decides.{nat_tests}
 use Rattle.forms.specs.Tables.{spanned, span_end}
+use Rattle.forms.specs.Words.{text_count}
 use Rattle.forms.proofs.WordSteps.{span_in, text_at_lem, text-past}
 use Rattle.forms.proofs.word.open.WordSourceSyntaxSource.text.Goals as goal
 use Rattle.forms.proofs.word.open.WordSourceSyntaxSource.text.Goals.{then-number-eq0-via-then-number-eq0, then-number-eq0-via-else-number-eq0+then-number-words}
@@ -15,21 +16,19 @@ returns-then-number-eq0 c =
           grind (arith, nat_tests, p, w.if-number-eq0.false)
     ]
 
-pub slice_bounds-result-end : goal.slice_bounds-result-end
-slice_bounds-result-end c =
+pub text-requires : goal.text-requires
+text-requires c =
     let s = c.args.self.now in
     let k : ℕ = c.args.number - 1 in
-    let fits : span_end c.span_from-span.result ≤ length s.bytes.now = subst (λ x. span_end x ≤ length s.bytes.now) (span_in s.words.now k (omega (arith, c.if-number-eq0.false)) ∙ sym c.span_from-span.ensures) (s.within k (omega (arith, c.if-number-eq0.false))) in
-    omega arith
+    let less : k < text_count s.words.now = omega (arith, c.if-number-eq0.false) in
+    subst (λ x. span_end x ≤ length s.bytes.now) (span_in s.words.now k less ∙ sym c.span_from-span.ensures) (s.within k less)
 
 pub returns : goal.returns
 returns c =
     let s = c.args.self.now in
     let bytes = s.bytes.now in
     let k : ℕ = c.args.number - 1 in
-    let span = c.span_from-span.result in
     let p = text_at_lem s.words.now bytes k (omega (arith, c.if-number-eq0.false)) in
-    let len : span.start + span.len - span.start ≡ span.len = omega arith in
-    let e : spanned bytes span ≡ take (span.start + span.len - span.start) (drop span.start bytes) = ap (λ m. take m (drop span.start bytes)) (sym len) in
+    let e = c.text.ensures in
     let q = ap (spanned bytes) c.span_from-span.ensures in
     grind (arith, nat_tests, p, e, q, c.if-number-eq0.false)

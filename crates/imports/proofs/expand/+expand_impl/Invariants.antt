@@ -1,8 +1,0 @@
-use Rattle.std.proofs.Common.{◌-◌}
-use Rattle.imports.proofs.expand.+expand_impl.Given as goal
-
-abbrev pub decreases-expand_impl : goal.decreases-expand_impl
-decreases-expand_impl l = l.depth
-
-abbrev pub decreases-loop-at : goal.decreases-loop-at
-decreases-loop-at l = l.members.end - l.at

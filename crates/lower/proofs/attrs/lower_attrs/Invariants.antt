@@ -1,9 +1,0 @@
-use Rattle.std.proofs.Common.{◌≡◌, ◌-◌}
-use Rattle.tree_tables.specs.Contents.{marked_of}
-use Rattle.lower.proofs.attrs.lower_attrs.Given as goal
-
-abbrev pub invariant-loop-child : goal.invariant-loop-child
-invariant-loop-child g l = marked_of l.tables ≡ marked_of l.initial.tables
-
-abbrev pub decreases-loop-child : goal.decreases-loop-child
-decreases-loop-child g l = l.owner.node.end - l.at

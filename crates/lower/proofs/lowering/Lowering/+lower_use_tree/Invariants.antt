@@ -1,0 +1,11 @@
+use Rattle.lower.specs.Keeping.{Keeps}
+use Rattle.lower.proofs.lowering.Lowering.+lower_use_tree.Given as goal
+
+abbrev pub decreases-lower_use_tree : goal.decreases-lower_use_tree
+decreases-lower_use_tree g l = l.depth
+
+abbrev pub invariant-loop-child : goal.invariant-loop-child
+invariant-loop-child g l =
+    (goal.iterator-loop-child g).can_next l.child-iterator
+    × (goal.iterator-loop-child g).is_finite l.child-iterator
+    × Keeps l.initial.self l.self

@@ -1,5 +1,0 @@
-use mathlib.Core.Path.{◌≡◌}
-use Rattle.page.proofs.out.Out.print_attr_list.Given as goal
-
-abbrev pub invariant-loop-i : goal.invariant-loop-i
-invariant-loop-i g l = l.indent.level ≡ l.initial.indent.level
