@@ -4,3 +4,4 @@ pub mod Listing
 pub mod Lawfulness
 pub mod Rows
 pub mod Walks
+pub mod Below

@@ -104,6 +104,10 @@ module _ (m : Meaning) (end : ℕ) where
   pub walk-few : (i : ℕ) → length (walk m i end) ≤ end - i
   walk-few i = walk_few end i (omega arith)
 
+-- a walk by where it begins
+pub walk-from : (m : Meaning) (end i j : ℕ) → i ≡ j → walk m i end ≡ walk m j end
+walk-from m end i j same = ap (λ k. walk m k end) same
+
 -- a walk over children begins at the number after their parent's
 pub children-walked : (m : Meaning) (number i end : ℕ) → number ≤ i → (number < 4294967295 → i ≡ number + 1) → end ≤ 4294967295 → walk m i end ≡ walk m (number + 1) end
 children-walked m number i end above next fits =

@@ -5,9 +5,11 @@ use Rattle.syntax.proofs.walk.children.Goals as goal
 
 pub returns-clause-walked : goal.returns-clause-walked
 returns-clause-walked g c =
-    c.siblings.ensures.walked ∙ children-walked _ _ _ _ c.first_child.ensures.above c.first_child.ensures.next (omega arith)
+    let first = c.first_child.ensures in
+    c.siblings.ensures.walked ∙ children-walked _ _ _ _ (omega (arith, first.above)) (λ low. omega (arith, first.next low)) (omega arith)
 
 pub returns-clause-own : goal.returns-clause-own
 returns-clause-own g c stands =
-    let start = children-start _ c.args.parent _ (g.S.SyntaxSource.law c.args.source.now) c.first_child.ensures.next stands in
+    let first = c.first_child.ensures in
+    let start = children-start _ c.args.parent _ (g.S.SyntaxSource.law c.args.source.now) (λ low. omega (arith, first.next low)) stands in
     c.siblings.ensures.own start.0 ∙ start.1
