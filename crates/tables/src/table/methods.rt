@@ -11,6 +11,8 @@ use super::{Rows, Table};
 use syntax::refusal::Refusal;
 
 impl<T: Copy, const N: usize> Table<T, N> {
+    // Inlined, so that the rows are filled where the table is to stand and not copied there.
+    #[inline(always)]
     pub fn new(filler: T) -> Table<T, N>
         ensures held { held result ≡ [] }
         ensures marked { marked result ≡ [] }

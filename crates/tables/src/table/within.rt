@@ -13,7 +13,9 @@ fn copy_in<T: Copy>(all: &mut [T], start: usize, rows: &[T])
     requires { start + length rows.now ≤ length all.old }
     ensures { take (start + length rows.now) all.new ≡ take start all.old ++ rows.now }
 {
-    all[start..start + rows.len()].copy_from_slice(rows);
+    for index in 0..rows.len() {
+        all[start + index] = rows[index];
+    }
 }
 
 impl<T: Copy, const N: usize> Table<T, N> {
