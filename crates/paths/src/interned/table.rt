@@ -1,5 +1,5 @@
 // Finding and adding paths.
-ghost use Rattle.std.specs.Prelude.{◌≡◌, ◌+◌, ◌<◌, ◌≤◌, true, false, [], length, IfOk, IfSome};
+ghost use Rattle.std.specs.Prelude.{◌≡◌, ◌+◌, ◌<◌, ◌≤◌, true, false, [], length, Decides, IfOk, IfSome};
 ghost use Rattle.std.specs.Option.{option_map};
 ghost use Rattle.syntax.specs.Meaning.{at};
 ghost use Rattle.tables.specs.Held.{held, marked};
@@ -33,6 +33,21 @@ impl InternedPath {
     }
 }
 
+// Whether the names are equal. Place by place: most paths differ in the first name, and the library's `==` is made for long slices.
+fn same_names(a: &[Name], b: &[Name]) -> bool
+    ensures { Decides result (a.now ≡ b.now) }
+{
+    if a.len() != b.len() {
+        return false;
+    }
+    for place in 0..a.len() {
+        if a[place] != b[place] {
+            return false;
+        }
+    }
+    true
+}
+
 impl KeySet<ModPath> for Paths {
     ghost Meant = { Path };
 
@@ -60,7 +75,7 @@ impl KeySet<ModPath> for Paths {
         let Some(part) = self.parts.get(index) else {
             return false;
         };
-        part.kind == key.kind() && self.names(part) == key.names()
+        part.kind == key.kind() && same_names(self.names(part), key.names())
     }
 
     fn push_key(&mut self, key: &ModPath) -> Result<usize, Refusal> {

@@ -42,6 +42,8 @@ impl From<Node> for SegmentKind {
 }
 
 impl ModPath {
+    // Inlined, as those below, so that a path is filled where it is to stand.
+    #[inline(always)]
     pub fn from_kind(kind: PathKind) -> ModPath
         ensures { (result.kind ≡ kind) × (names_of result ≡ []) }
     {
@@ -52,6 +54,7 @@ impl ModPath {
     }
 
     // The path of one name.
+    #[inline(always)]
     pub fn from_name(name: Name) -> ModPath
         ensures { (result.kind ≡ Plain) × (names_of result ≡ name ∷ []) }
     {
@@ -59,6 +62,7 @@ impl ModPath {
     }
 
     // A path of a kind with one name.
+    #[inline(always)]
     fn of_name(kind: PathKind, name: Name) -> ModPath
         ensures { (result.kind ≡ kind) × (names_of result ≡ name ∷ []) }
     {

@@ -1,5 +1,4 @@
 use Rattle.std.proofs.Common.{◌≡◌, true, sym, ap, ◌∙◌, rules}
-use Rattle.std.proofs.lemmas.Slice.Eq.{slice_eq-Decides}
 use Rattle.tables.proofs.Sets.{two_ways}
 use Rattle.paths.proofs.Comparing.{names_decide, no_row, row_compared}
 use Rattle.paths.specs.Kept.{read_path, shown}
@@ -15,8 +14,7 @@ returns-then-eq c =
     let key = read_path c.args.key.now in
     let part = c.in-Some.part in
     let same : part.kind ≡ c.kind.result = search rules in
-    let names = slice_eq-Decides (λ a b. (search rules, search rules)) _ _ c.eq-then-eq.result c.eq-then-eq.ensures in
-    row_compared s c.args.index key _ c.get.ensures part c.in-Some.is _ (names_decide (shown s part) key _ _ _ c.names.ensures c.names-then-eq.ensures (same ∙ c.kind.ensures) names)
+    row_compared s c.args.index key _ c.get.ensures part c.in-Some.is _ (names_decide (shown s part) key _ _ _ c.names.ensures c.names-then-eq.ensures (same ∙ c.kind.ensures) c.same_names.ensures)
 
 pub returns-else-eq : goal.returns-else-eq
 returns-else-eq c =
