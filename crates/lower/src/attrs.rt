@@ -51,12 +51,17 @@ impl From<Node> for AttrNode {
 }
 
 // The path of an attribute, or the missing name's.
+// By `and_then` and `unwrap_or_else` a path, which is large, is copied three times over.
 fn path_of<S: SyntaxSource>(source: &S, attr: NodeRef) -> ModPath
     ensures { StandsIn (S.SyntaxSource.meaning source.now) attr → meant result ≡ (attribute_of (S.SyntaxSource.meaning source.now) attr).path }
 {
-    child_of_kind(source, attr, SyntaxKind::Path)
-        .and_then(|path| ModPath::from_src(source, path))
-        .unwrap_or_else(|| ModPath::from_name(Name::Missing))
+    let Some(path) = child_of_kind(source, attr, SyntaxKind::Path) else {
+        return ModPath::from_name(Name::Missing);
+    };
+    match ModPath::from_src(source, path) {
+        Some(path) => path,
+        None => ModPath::from_name(Name::Missing),
+    }
 }
 
 impl<S: SyntaxSource> Lowering<'_, '_, S> {

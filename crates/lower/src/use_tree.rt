@@ -145,7 +145,9 @@ impl<S: SyntaxSource> Lowering<'_, '_, S> {
         let Ok(mark) = UseMark::try_from(tree.node.mark) else {
             return Ok(None);
         };
-        let Ok(path) = path_of(self.source, tree, mark) else {
+        // The path is looked at where it is, since it is large.
+        let read = path_of(self.source, tree, mark);
+        let Ok(path) = &read else {
             return Ok(None);
         };
         let alias = alias_of(self.source, tree);
