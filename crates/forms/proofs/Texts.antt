@@ -1,8 +1,9 @@
 -- Texts by their spans: their lengths, and whether they are equal.
-use Rattle.std.proofs.Common.{◌≡◌, ℕ, suc, ◌+◌, ◌<◌, ◌≤◌, true, false, not, ◌&&◌, ◌||◌, leb, List, [], ◌∷◌, length, get_or, take, drop, sym, refl, ap, ◌∙◌, subst, arith, length-drop, length-take}
-use Rattle.std.specs.List.{list_any}
+use Rattle.std.proofs.Common.{◌≡◌, ℕ, suc, ◌+◌, ◌<◌, ◌≤◌, true, false, not, ◌&&◌, ◌||◌, leb, List, [], ◌∷◌, length, get_or, map, take, drop, sym, refl, ap, ◌∙◌, subst, arith, length-drop, length-take}
+use Rattle.std.specs.List.{list_any, range_with_len}
 use Rattle.std.specs.Str.{bytes_eq}
-use Rattle.std.proofs.lemmas.List.{get_or-take, get_or_default}
+use Rattle.std.proofs.lemmas.List.{get_or-take, get_or_default, same_lists}
+use Rattle.std.proofs.lemmas.List.FromFn.{get_or-map-range_with_len, length-map-range_with_len}
 use Rattle.std.proofs.lemmas.Bool.{and_left, and_right, le-leb, lt-leb}
 use Rattle.forms.specs.declared.tables.Span.{Span}
 use Rattle.syntax.specs.Law.{among, is_text, lawful_texts}
@@ -25,6 +26,20 @@ module _ (bytes : List ℕ) where
   pub any_among : (t : List ℕ) (spans : List Span) → list_any (λ span. bytes_eq t (spanned bytes span)) spans ≡ among t (spanned_all bytes spans)
   any_among t [] = refl
   any_among t (span ∷ spans) = ap (λ b. bytes_eq t (spanned bytes span) || b) (any_among t spans)
+
+  -- the same by their places
+  at_places : (t : List ℕ) (spans : List Span) (ks : List ℕ) → list_any (λ k. bytes_eq t (spanned bytes (get_or spans k no_span))) ks ≡ list_any (λ span. bytes_eq t (spanned bytes span)) (map (λ k. get_or spans k no_span) ks)
+  at_places t spans [] = refl
+  at_places t spans (k ∷ ks) = ap (λ b. bytes_eq t (spanned bytes (get_or spans k no_span)) || b) (at_places t spans ks)
+
+  placed : (spans : List Span) → map (λ k. get_or spans k no_span) (range_with_len 0 (length spans)) ≡ spans
+  placed spans =
+      let n = length-map-range_with_len (λ k. get_or spans k no_span) 0 (length spans) in
+      same_lists _ spans n
+      (λ k d less. let low : k < length spans = omega (arith, n) in get_or-map-range_with_len (λ j. get_or spans j no_span) 0 (length spans) k k d low (omega arith) ∙ get_or_default spans k no_span d low)
+
+  pub any_placed : (t : List ℕ) (spans : List Span) → list_any (λ k. bytes_eq t (spanned bytes (get_or spans k no_span))) (range_with_len 0 (length spans)) ≡ among t (spanned_all bytes spans)
+  any_placed t spans = at_places t spans (range_with_len 0 (length spans)) ∙ ap (list_any (λ span. bytes_eq t (spanned bytes span))) (placed spans) ∙ any_among t spans
 
 -- a text by its length
 module _ (t : List ℕ) (later : List (List ℕ)) where

@@ -14,12 +14,12 @@ const MAX_TEXTS: u32 = 1024;
 
 const MAX_TEXT_LEN: usize = 255;
 
-// Whether the text stands there in the bytes.
+// Whether the text stands there in the bytes. The lengths first, since those of most texts differ.
 fn is_same(text: &[u8], span: Span, bytes: &[u8]) -> bool
     requires { span.start + span.len ≤ length bytes.now }
     ensures { result ≡ bytes_eq text.now (spanned bytes.now span) }
 {
-    text == span.text(bytes)
+    text.len() == span.len && text == span.text(bytes)
 }
 
 // Texts by their spans in the bytes.
@@ -31,12 +31,13 @@ struct Texts<'b, 's> {
 }
 
 impl<'b, 's> Texts<'b, 's> {
-    // Whether one of them is that text.
+    // Whether one of them is that text. Not inlined, so that its loop has the registers to itself.
+    #[inline(never)]
     fn has(self, text: &[u8]) -> bool
         ensures { result ≡ among text.now (spanned_all self.entry.bytes.now self.entry.spans.now) }
     {
-        let bytes = self.bytes;
-        self.spans.iter().any(|span| is_same(text, *span, bytes))
+        let Texts { bytes, spans } = self;
+        (0..spans.len()).any(|later| is_same(text, spans[later], bytes))
     }
 
     // Whether each has 1 to 255 bytes, and no later one equals it.
