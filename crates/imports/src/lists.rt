@@ -53,13 +53,11 @@ impl ImportLists<'_, '_> {
             imports: at,
             names: first,
         } = self.lengths;
-        for (slot, name) in self
-            .names
-            .iter_mut()
-            .skip(first)
-            .zip(front.iter().chain(own))
-        {
-            *slot = *name;
+        // No `skip`: it would go over all names that were laid before.
+        if let Some(room) = self.names.get_mut(first..) {
+            for (slot, name) in room.iter_mut().zip(front.iter().chain(own)) {
+                *slot = *name;
+            }
         }
         let count = front.len().saturating_add(own.len());
         let import = Import {
