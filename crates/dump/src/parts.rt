@@ -5,29 +5,34 @@ use items::ids::RawVisibilityId;
 use items::records::ItemIds;
 use items::use_tree::ImportAlias;
 use items::visibility::{RawVisibility, VisibilityExplicitness};
+use page::sink::Sink;
 use paths::interned::PathId;
 use paths::mod_path::{ModPath, PathKind};
 use paths::name::Name;
-use std::fmt;
-use std::fmt::Write;
 use syntax::refusal::Refusal;
 use syntax::source::SyntaxSource;
 
-// A text of a source between quotes: a byte that does not print stands as a backslash and two digits.
-#[derive(Clone, Copy)]
-struct Quoted<'a>(&'a [u8]);
+static DIGITS: [u8; 16] = *b"0123456789abcdef";
 
-impl fmt::Display for Quoted<'_> {
-    fn fmt<W: fmt::Write>(&self, f: &mut fmt::Formatter<W>) -> fmt::Result {
-        f.write_char('"')?;
-        for byte in self.0 {
-            match *byte {
-                0..32 | b'"' | b'\\' | 127.. => write!(f, "\\{byte:02x}")?,
-                byte => f.write_char(char::from(byte))?,
-            }
-        }
-        f.write_char('"')
+// A byte of a text: one that does not print stands as a backslash and two digits.
+// Through a formatter a long text takes four times as long.
+fn quote_byte(out: &mut Sink, byte: u8) {
+    if byte < 32 || byte > 126 || byte == b'"' || byte == b'\\' {
+        out.put(b'\\');
+        out.put(DIGITS[(byte / 16) as usize]);
+        out.put(DIGITS[(byte % 16) as usize]);
+    } else {
+        out.put(byte);
     }
+}
+
+// A text between quotes.
+fn quote(out: &mut Sink, text: &[u8]) {
+    out.put(b'"');
+    for byte in text {
+        quote_byte(out, *byte);
+    }
+    out.put(b'"');
 }
 
 // What a record is made of.
@@ -113,10 +118,11 @@ impl<S: SyntaxSource> Dump<S> for AttrInput {
 }
 
 impl<S: SyntaxSource> Dumper<'_, '_, '_, '_, S> {
-    // The text of a number, after a word.
+    // The text of a number between quotes, after a word.
     fn dump_text(&mut self, word: &str, number: u32) -> Result<(), Refusal> {
-        let text = Quoted(self.source.text(number).ok_or(Refusal::MissingText)?);
-        self.say(format_args!("{word}{text}"));
+        let text = self.source.text(number).ok_or(Refusal::MissingText)?;
+        self.out.say(word.as_bytes());
+        quote(self.out, text);
         Ok(())
     }
 
